@@ -1,18 +1,16 @@
 -- What is counted of held nodes: how many read and write each key, one node more and one less, and what that says of a node's locks.
-use Rattle.std.proofs.Common.{◌≡◌, ℕ, zero, suc, ◌+◌, ◌-◌, ◌^◌, ◌<◌, ◌≤◌, ◌≢◌, List, [], ◌∷◌, length, replicate, set, Option, Some, None, Bool, true, false, ◌||◌, ◌&&◌, ◌==◌, not, cond, is_some, ap, ap₂, sym, subst, ◌∙◌, inl, inr, arith, refl}
+use Rattle.std.proofs.Common.{◌≡◌, ℕ, zero, suc, ◌+◌, ◌-◌, ◌^◌, ◌<◌, ◌≤◌, ◌≢◌, List, [], ◌∷◌, length, set, Option, Some, None, Bool, true, false, ◌||◌, ◌&&◌, ◌==◌, not, cond, is_some, ap, ap₂, sym, subst, ◌∙◌, inl, inr, arith, refl}
 use Rattle.std.proofs.lemmas.Bool.{cases_eq}
-use Rattle.std.proofs.lemmas.List.{get_or-set_same, get_or-set_other, length-replicate, length-set}
-use Rattle.std.proofs.lemmas.List.Elements.{recursion_from_All}
+use Rattle.std.proofs.lemmas.List.{get_or-set_same, get_or-set_other, length-set}
 use Rattle.std.specs.List.{AllByRecursion, list_any}
 use Rattle.std.specs.Option.{option_or}
 use Rattle.iso_model.specs.Rights.{is_writable}
 use Rattle.iso_model.specs.declared.access.Access.{Access}
 use Rattle.iso_model.specs.declared.access.Access.TheVariants.{Read, Write}
 use Rattle.iso_plan.proofs.ConflictLemmas.{conflicts-is}
-use Rattle.iso_plan.proofs.LockLemmas.{locks-known}
 use Rattle.iso_plan.proofs.PathLemmas.{eq_not, eq_same}
 use Rattle.iso_plan.specs.Conflicts.{conflicts, is_in_the_way, lowest, lowest_in_the_way, shares}
-use Rattle.iso_plan.specs.HeldNodes.{AreCounted, CanAdd, CanRemove, added, any_excluded, count, counted, excluded, is_access, is_held, one_less, one_more, removed, takers, takes_in, unused, use_of}
+use Rattle.iso_plan.specs.HeldNodes.{AreCounted, CanAdd, CanRemove, added, any_excluded, count, counted, is_access, is_held, one_less, one_more, removed, takers, takes_in, unused, use_of}
 use Rattle.iso_plan.specs.KeyTable.{keys}
 use Rattle.iso_plan.specs.Locks.{conflict, exclude, is_write, locks, taken}
 use Rattle.iso_plan.specs.Rising.{RiseFrom}
@@ -36,15 +34,15 @@ or-comm : (a b : Bool) → (a || b) ≡ (b || a)
 or-comm true b = sym (or-true b)
 or-comm false b = sym (or-false b)
 
-and-false : (a : Bool) → (a && false) ≡ false
+pub and-false : (a : Bool) → (a && false) ≡ false
 and-false true = refl
 and-false false = refl
 
-eq-comm : (a b : ℕ) → (a == b) ≡ (b == a)
+pub eq-comm : (a b : ℕ) → (a == b) ≡ (b == a)
 eq-comm a b = elim (cases_eq a b) [ inl same ↦ ap₂ (λ (x y : ℕ). x == y) same (sym same) | inr other ↦ eq_not a b other ∙ sym (eq_not b a (λ e. other (sym e))) ]
 
 -- later locks aren't on an earlier key
-takes-above : (a : Access) (k : ℕ) (ls : List Lock) (j : ℕ) → k < j → RiseFrom j ls → takes_in a k ls ≡ false
+pub takes-above : (a : Access) (k : ℕ) (ls : List Lock) (j : ℕ) → k < j → RiseFrom j ls → takes_in a k ls ≡ false
 takes-above a k [] j h r = refl
 takes-above a k (l ∷ ls) j h r =
     let low = r.0 in
@@ -91,6 +89,10 @@ first-takes a l ls none =
 next-takes : (a : Access) (l : Lock) (ls : List Lock) (k : ℕ) → l.key ≢ k → takes_in a k (l ∷ ls) ≡ takes_in a k ls
 next-takes a l ls k apart = ap (λ (p : Bool). (p && is_access a l.access) || takes_in a k ls) (eq_not l.key k apart)
 
+-- the first of locks on different keys is on its own key
+own-takes : (l : Lock) (ls : List Lock) (j : ℕ) → l.key < j → RiseFrom j ls → takes_in l.access l.key (l ∷ ls) ≡ true
+own-takes l ls j h r = first-takes l.access l ls (takes-above l.access l.key ls j h r) ∙ same-access l.access
+
 -- locks that are counted besides count once each
 pub added-at : (a : Access) (ls : List Lock) (us : List KeyUse) (j k : ℕ) → RiseFrom j ls → AllByRecursion (λ (l : Lock). l.key < length us) ls
     → counted a (use_of (added ls us) k) ≡ counted a (use_of us k) + cond (takes_in a k ls) 1 0
@@ -132,18 +134,18 @@ removed-at a (l ∷ ls) us j k r known =
 
 -- there is room for locks on different keys
 pub can-add : (ls : List Lock) (us : List KeyUse) (j : ℕ) → RiseFrom j ls → AllByRecursion (λ (l : Lock). l.key < length us) ls
-    → ((a : Access) (k : ℕ) → j ≤ k → k < length us → counted a (use_of us k) + 1 < 2 ^ 64) → CanAdd ls us
+    → ((a : Access) (k : ℕ) → j ≤ k → k < length us → takes_in a k ls ≡ true → counted a (use_of us k) + 1 < 2 ^ 64) → CanAdd ls us
 can-add [] us j r known room = tt
 can-add (l ∷ ls) us j r known room =
     let u = one_more l.access (use_of us l.key) in
     let low = r.0 in
-    let room_later : (a : Access) (k : ℕ) → suc l.key ≤ k → k < length (set us l.key u) → counted a (use_of (set us l.key u) k) + 1 < 2 ^ 64 =
-    λ a k h w.
+    let room_later : (a : Access) (k : ℕ) → suc l.key ≤ k → k < length (set us l.key u) → takes_in a k ls ≡ true → counted a (use_of (set us l.key u) k) + 1 < 2 ^ 64 =
+    λ a k h w t.
     let same : counted a (use_of (set us l.key u) k) ≡ counted a (use_of us k) = ap (counted a) (set-other us l.key k u (λ e. omega arith)) in
     let fits = length-set us l.key u in
-    let before = room a k (omega arith) (omega arith) in
+    let before = room a k (omega arith) (omega arith) (next-takes a l ls k (λ e. omega arith) ∙ t) in
     rw same before in
-    (known.0, (room l.access l.key low known.0, can-add ls (set us l.key u) (suc l.key) r.1 (known-set us l.key u ls known.1) room_later))
+    (known.0, (room l.access l.key low known.0 (own-takes l ls (suc l.key) (omega arith) r.1), can-add ls (set us l.key u) (suc l.key) r.1 (known-set us l.key u ls known.1) room_later))
 
 -- locks on different keys that are counted can be counted no longer
 pub can-remove : (ls : List Lock) (us : List KeyUse) (j : ℕ) → RiseFrom j ls → AllByRecursion (λ (l : Lock). l.key < length us) ls
@@ -158,10 +160,10 @@ can-remove (l ∷ ls) us j r known there =
     let fits = length-set us l.key u in
     let before = there a k (omega arith) (omega arith) (next-takes a l ls k (λ e. omega arith) ∙ t) in
     rw same before in
-    let own : takes_in l.access l.key (l ∷ ls) ≡ true = first-takes l.access l ls (takes-above l.access l.key ls (suc l.key) (omega arith) r.1) ∙ same-access l.access in
+    let own : takes_in l.access l.key (l ∷ ls) ≡ true = own-takes l ls (suc l.key) (omega arith) r.1 in
     (known.0, (there l.access l.key low known.0 own, can-remove ls (set us l.key u) (suc l.key) r.1 (known-set us l.key u ls known.1) later))
 
-count-same : (p q : ℕ → Bool) (n : ℕ) → ((m : ℕ) → m < n → p m ≡ q m) → count p n ≡ count q n
+pub count-same : (p q : ℕ → Bool) (n : ℕ) → ((m : ℕ) → m < n → p m ≡ q m) → count p n ≡ count q n
 count-same p q zero h = refl
 count-same p q (suc n) h =
     ap₂ (λ (c : ℕ) (b : Bool). c + cond b 1 0) (count-same p q n (λ m l. h m (omega arith))) (h n (omega arith))
@@ -281,10 +283,13 @@ and-swap true false r = refl
 and-swap false true r = refl
 and-swap false false r = refl
 
+-- whether a held node takes a lock's key, one of the two for READ_WRITE
+abbrev pub keeps-out : List Row → List Bool → Lock → Bool
+keeps-out tree held l = not (takers tree held Write l.key == 0) || (is_write l && not (takers tree held Read l.key == 0))
+
 -- a lock that a held node is in the way of
-one_excluded : (tree : List Row) (held : List Bool) (uses : List KeyUse) (l : Lock) → AreCounted tree held uses → l.key < length uses
-    → some_below (λ m. is_held held m && shares l (locks tree m)) (length tree) ≡ excluded (use_of uses l.key) l
-one_excluded tree held uses l c h =
+one_out : (tree : List Row) (held : List Bool) (l : Lock) → some_below (λ m. is_held held m && shares l (locks tree m)) (length tree) ≡ keeps-out tree held l
+one_out tree held l =
     let writers : ℕ → Bool = λ m. is_held held m && takes_in Write l.key (locks tree m) in
     let readers : ℕ → Bool = λ m. is_held held m && takes_in Read l.key (locks tree m) in
     let w = is_write l in
@@ -295,53 +300,44 @@ one_excluded tree held uses l c h =
     ∙ some-or writers (λ m. w && readers m) (length tree)
     ∙ ap (λ (s : Bool). some_below writers (length tree) || s) (some-and w readers (length tree))
     ∙ ap₂ (λ (p q : Bool). p || (w && q)) (some-counted writers (length tree)) (some-counted readers (length tree))
-    ∙ ap₂ (λ (p q : ℕ). not (p == 0) || (w && not (q == 0))) (sym (c.counts Write l.key h)) (sym (c.counts Read l.key h))
 
-locks_excluded : (tree : List Row) (held : List Bool) (uses : List KeyUse) (ls : List Lock) → AreCounted tree held uses → AllByRecursion (λ (l : Lock). l.key < length uses) ls
-    → some_below (λ m. is_held held m && conflicts ls (locks tree m)) (length tree) ≡ any_excluded uses ls
-locks_excluded tree held uses [] c known = some-none (λ m. is_held held m && false) (length tree) (λ m. and-false (is_held held m))
-locks_excluded tree held uses (l ∷ ls) c known =
+locks_out : (tree : List Row) (held : List Bool) (ls : List Lock)
+    → some_below (λ m. is_held held m && conflicts ls (locks tree m)) (length tree) ≡ list_any (keeps-out tree held) ls
+locks_out tree held [] = some-none (λ m. is_held held m && false) (length tree) (λ m. and-false (is_held held m))
+locks_out tree held (l ∷ ls) =
     some-same (λ m. is_held held m && conflicts (l ∷ ls) (locks tree m)) (λ m. (is_held held m && shares l (locks tree m)) || (is_held held m && conflicts ls (locks tree m))) (length tree)
     (λ m. and-or (is_held held m) (shares l (locks tree m)) (conflicts ls (locks tree m)))
     ∙ some-or (λ m. is_held held m && shares l (locks tree m)) (λ m. is_held held m && conflicts ls (locks tree m)) (length tree)
-    ∙ ap₂ (λ (p q : Bool). p || q) (one_excluded tree held uses l c known.0) (locks_excluded tree held uses ls c known.1)
+    ∙ ap₂ (λ (p q : Bool). p || q) (one_out tree held l) (locks_out tree held ls)
+
+-- a node's locks are kept out where a held node conflicts with it
+pub kept-out : (tree : List Row) (held : List Bool) (n : ℕ) → list_any (keeps-out tree held) (locks tree n) ≡ is_some (lowest_in_the_way tree (is_held held) n)
+kept-out tree held n =
+    sym (locks_out tree held (locks tree n))
+    ∙ some-same (λ m. is_held held m && conflicts (locks tree n) (locks tree m)) (is_in_the_way tree (is_held held) n) (length tree)
+    (λ m. ap (λ (b : Bool). is_held held m && b) (conflicts-is tree n m ∙ conflict-comm tree n m))
+    ∙ sym (lowest-some (is_in_the_way tree (is_held held) n) (length tree))
+
+-- what is counted of keys excludes locks on them as the held nodes do
+pub excluded-out : (tree : List Row) (held : List Bool) (uses : List KeyUse) (ls : List Lock)
+    → AllByRecursion (λ (l : Lock). (a : Access) → counted a (use_of uses l.key) ≡ takers tree held a l.key) ls → any_excluded uses ls ≡ list_any (keeps-out tree held) ls
+excluded-out tree held uses [] c = refl
+excluded-out tree held uses (l ∷ ls) c =
+    ap₂ (λ (p q : Bool). p || q) (ap₂ (λ (p q : ℕ). not (p == 0) || (is_write l && not (q == 0))) (c.0 Write) (c.0 Read)) (excluded-out tree held uses ls c.1)
+
+counts_of : (tree : List Row) (held : List Bool) (uses : List KeyUse) (ls : List Lock) → AreCounted tree held uses → AllByRecursion (λ (l : Lock). l.key < length uses) ls
+    → AllByRecursion (λ (l : Lock). (a : Access) → counted a (use_of uses l.key) ≡ takers tree held a l.key) ls
+counts_of tree held uses [] c known = tt
+counts_of tree held uses (l ∷ ls) c known = (λ a. c.counts a l.key known.0, counts_of tree held uses ls c known.1)
 
 -- what is counted excludes a node's locks where a held node conflicts with it
 pub excluded-is : (tree : List Row) (held : List Bool) (uses : List KeyUse) (n : ℕ) → AreCounted tree held uses → AllByRecursion (λ (l : Lock). l.key < length uses) (locks tree n)
     → any_excluded uses (locks tree n) ≡ is_some (lowest_in_the_way tree (is_held held) n)
 excluded-is tree held uses n c known =
-    sym (locks_excluded tree held uses (locks tree n) c known)
-    ∙ some-same (λ m. is_held held m && conflicts (locks tree n) (locks tree m)) (is_in_the_way tree (is_held held) n) (length tree)
-    (λ m. ap (λ (b : Bool). is_held held m && b) (conflicts-is tree n m ∙ conflict-comm tree n m))
-    ∙ sym (lowest-some (is_in_the_way tree (is_held held) n) (length tree))
+    excluded-out tree held uses (locks tree n) (counts_of tree held uses (locks tree n) c known) ∙ kept-out tree held n
 
-none-held : (n m : ℕ) → is_held (replicate n false) m ≡ false
-none-held zero m = refl
-none-held (suc n) zero = refl
-none-held (suc n) (suc m) = none-held n m
-
-none-used : (n k : ℕ) → use_of (replicate n unused) k ≡ unused
-none-used zero k = refl
-none-used (suc n) zero = refl
-none-used (suc n) (suc k) = none-used n k
-
-zero-of : (a : Access) → counted a unused ≡ 0
-zero-of Read = refl
-zero-of Write = refl
-
--- where no node is held, none is counted
-pub counted-none : (tree : List Row) (held : List Bool) (uses : List KeyUse) → held ≡ replicate (length tree) false → uses ≡ replicate (length (keys tree)) unused → AreCounted tree held uses
-counted-none tree held uses h u =
-    record {
-      nodes = ap length h ∙ length-replicate (length tree) false;
-      table = ap length u ∙ length-replicate (length (keys tree)) unused;
-      counts = λ a k w.
-          ap (λ (us : List KeyUse). counted a (use_of us k)) u ∙ ap (counted a) (none-used (length (keys tree)) k) ∙ zero-of a
-          ∙ sym (count-none (λ m. is_held held m && takes_in a k (locks tree m)) (length tree)
-          (λ m l. ap (λ (hs : List Bool). is_held hs m && takes_in a k (locks tree m)) h ∙ ap (λ (b : Bool). b && takes_in a k (locks tree m)) (none-held (length tree) m)));
-    }
-
-takers-less : (tree : List Row) (held : List Bool) (a : Access) (k n : ℕ) → n < length tree → length held ≡ length tree → is_held held n ≡ false
+-- one node more is held: it is counted besides
+pub takers-less : (tree : List Row) (held : List Bool) (a : Access) (k n : ℕ) → n < length tree → length held ≡ length tree → is_held held n ≡ false
     → takers tree (set held n true) a k ≡ takers tree held a k + cond (takes_in a k (locks tree n)) 1 0
 takers-less tree held a k n h fits free =
     let within : n < length held = omega arith in
@@ -352,7 +348,7 @@ takers-less tree held a k n h fits free =
     ∙ ap (λ (b : Bool). takers tree held a k + cond (b && takes_in a k (locks tree n)) 1 0) own
 
 -- one node less is held: it was counted
-takers-more : (tree : List Row) (held : List Bool) (a : Access) (k n : ℕ) → n < length tree → length held ≡ length tree → is_held held n ≡ true
+pub takers-more : (tree : List Row) (held : List Bool) (a : Access) (k n : ℕ) → n < length tree → length held ≡ length tree → is_held held n ≡ true
     → takers tree held a k ≡ takers tree (set held n false) a k + cond (takes_in a k (locks tree n)) 1 0
 takers-more tree held a k n h fits there =
     let within : n < length held = omega arith in
@@ -361,62 +357,3 @@ takers-more tree held a k n h fits there =
     (ap (λ (b : Bool). b && takes_in a k (locks tree n)) own)
     (λ m other. ap (λ (b : Bool). b && takes_in a k (locks tree m)) (get_or-set_other held n m false false other))
     ∙ ap (λ (b : Bool). takers tree (set held n false) a k + cond (b && takes_in a k (locks tree n)) 1 0) there
-
--- the counts when a node is held besides
-pub counted-more : (tree : List Row) (held : List Bool) (uses : List KeyUse) (n : ℕ) → n < length tree
-    → RiseFrom 0 (locks tree n) → AllByRecursion (λ (l : Lock). l.key < length uses) (locks tree n) → is_held held n ≡ false
-    → AreCounted tree held uses → AreCounted tree (set held n true) (added (locks tree n) uses)
-counted-more tree held uses n h rise known free c =
-    record {
-      nodes = length-set held n true ∙ c.nodes;
-      table = added-length (locks tree n) uses ∙ c.table;
-      counts = λ a k w.
-          let same = added-length (locks tree n) uses in
-          let within : k < length uses = omega arith in
-          added-at a (locks tree n) uses 0 k rise known
-          ∙ ap (λ (x : ℕ). x + cond (takes_in a k (locks tree n)) 1 0) (c.counts a k within)
-          ∙ sym (takers-less tree held a k n h c.nodes free);
-    }
-
-back : (x y b : ℕ) → x ≡ y + b → x - b ≡ y
-back x y b e = omega arith
-
--- the counts when a node is held no longer
-pub counted-less : (tree : List Row) (held : List Bool) (uses : List KeyUse) (n : ℕ) → n < length tree
-    → RiseFrom 0 (locks tree n) → AllByRecursion (λ (l : Lock). l.key < length uses) (locks tree n) → is_held held n ≡ true
-    → AreCounted tree held uses → AreCounted tree (set held n false) (removed (locks tree n) uses)
-counted-less tree held uses n h rise known there c =
-    record {
-      nodes = length-set held n false ∙ c.nodes;
-      table = removed-length (locks tree n) uses ∙ c.table;
-      counts = λ a k w.
-          let same = removed-length (locks tree n) uses in
-          let within : k < length uses = omega arith in
-          removed-at a (locks tree n) uses 0 k rise known
-          ∙ back (counted a (use_of uses k)) (takers tree (set held n false) a k) (cond (takes_in a k (locks tree n)) 1 0)
-          (c.counts a k within ∙ takers-more tree held a k n h c.nodes there);
-    }
-
--- the keys of a node's locks are in the table
-pub known-locks : (tree : List Row) (uses : List KeyUse) (n : ℕ) → length uses ≡ length (keys tree) → AllByRecursion (λ (l : Lock). l.key < length uses) (locks tree n)
-known-locks tree uses n e =
-    subst (λ (k : ℕ). AllByRecursion (λ (l : Lock). l.key < k) (locks tree n)) (sym e) (recursion_from_All (λ (l : Lock). l.key < length (keys tree)) (locks tree n) (locks-known tree n))
-
--- numbers of nodes have room
-pub room : (tree : List Row) (held : List Bool) (uses : List KeyUse) (ls : List Lock) → RiseFrom 0 ls
-    → AllByRecursion (λ (l : Lock). l.key < length uses) ls → length tree < 2 ^ 63 → AreCounted tree held uses → CanAdd ls uses
-room tree held uses ls rise known few c =
-    can-add ls uses 0 rise known (λ a k low w.
-    let e = c.counts a k w in
-    let small = count-small (λ m. is_held held m && takes_in a k (locks tree m)) (length tree) in
-    let total : counted a (use_of uses k) ≤ length tree = subst (λ (x : ℕ). x ≤ length tree) (sym e) small in
-    omega arith)
-
--- what a held node takes is counted
-pub there : (tree : List Row) (held : List Bool) (uses : List KeyUse) (n : ℕ) → n < length tree → RiseFrom 0 (locks tree n)
-    → AllByRecursion (λ (l : Lock). l.key < length uses) (locks tree n) → is_held held n ≡ true → AreCounted tree held uses → CanRemove (locks tree n) uses
-there tree held uses n h rise known own c =
-    can-remove (locks tree n) uses 0 rise known (λ a k low w t.
-    let e = c.counts a k w ∙ takers-more tree held a k n h c.nodes own ∙ ap (λ (b : Bool). takers tree (set held n false) a k + cond b 1 0) t in
-    let one : counted a (use_of uses k) ≡ takers tree (set held n false) a k + 1 = e in
-    omega arith)

@@ -9,11 +9,13 @@ pub mod FaultLemmas
 pub mod Firsts
 pub mod FullLemmas
 pub mod Gathering
+pub mod GroupLemmas
 pub mod Growth
 pub mod HeldLemmas
 pub mod KeptLemmas
 pub mod KeyLemmas
 pub mod LawLemmas
+pub mod LeadLemmas
 pub mod LockLemmas
 pub mod MergeLemmas
 pub mod MergedLemmas
@@ -31,6 +33,7 @@ pub mod SelectFirst
 pub mod SelectionLemmas
 pub mod Sharing
 pub mod SoFar
+pub mod SplitLemmas
 pub mod TopClassLemmas
 pub mod TopLemmas
 pub mod TreeLemmas

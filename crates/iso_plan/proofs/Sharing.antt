@@ -122,7 +122,7 @@ plan_shared =
     search (
       declared_sync inside.the_type (
         search rows,
-        (search rows, (search rows, (search rows, (search rows, (search rows, (search rows, (search rows, (search rows, (search rows, (search rows, tt)))))))))),
+        (search rows, (search rows, (search rows, (search rows, (search rows, (search rows, (search rows, (search rows, (search rows, (search rows, (search rows, (search rows, tt)))))))))))),
       ),
       sendable,
     )

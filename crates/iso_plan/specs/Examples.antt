@@ -199,6 +199,12 @@ keys_of_children =
     tree (shop (a_class (codes "C") None false (for_children (writes key_k) ∷ reads key_l ∷ [])
     (member (a_test (codes "a") None []) no_members) ∷ []) ∷ [])
 
+-- node 1 of read children "K" write children "L" class C { }: C
+abbrev pub keys_of_no_node : List Row
+keys_of_no_node =
+    tree (shop (a_class (codes "C") None false
+    (for_children (reads key_k) ∷ for_children (writes key_l) ∷ []) no_members ∷ []) ∷ [])
+
 -- nodes 1 and 2 of class A "B" { test t "u" { } }: A, t
 abbrev pub titled : List Row
 titled =

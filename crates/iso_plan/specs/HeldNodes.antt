@@ -8,6 +8,7 @@ use Rattle.std.specs.Coded.{Coded, code_by, coded×, coded_list, coded_bool}
 use Rattle.std.specs.List.{list_any}
 use Rattle.iso_model.specs.declared.access.Access.{Access}
 use Rattle.iso_model.specs.declared.access.Access.TheVariants.{Read, Write}
+use Rattle.iso_plan.specs.KeyGroups.{is_lead}
 use Rattle.iso_plan.specs.KeyTable.{keys}
 use Rattle.iso_plan.specs.Locks.{is_write, locks}
 use Rattle.iso_plan.specs.Planned.{Planned}
@@ -97,6 +98,13 @@ pub record AreCounted (tree : List Row) (held : List Bool) (uses : List KeyUse) 
   pub table : length uses ≡ length (keys tree)
   pub counts : (a : Access) (key : ℕ) → key < length uses → counted a (use_of uses key)
       ≡ takers tree held a key
+
+-- each lead has the number of held nodes that read it, and of those that write it
+pub record AreLeadsCounted (tree : List Row) (held : List Bool) (uses : List KeyUse) : Type 0 where
+  pub nodes : length held ≡ length tree
+  pub table : length uses ≡ length (keys tree)
+  pub counts : (a : Access) (key : ℕ) → key < length uses → is_lead tree key ≡ true
+      → counted a (use_of uses key) ≡ takers tree held a key
 
 -- one node more that takes a key in an access
 abbrev pub one_more : Access → KeyUse → KeyUse

@@ -7,6 +7,7 @@ pub mod Faults
 pub mod HeldNodes
 pub mod IsPlan
 pub mod KeptNodes
+pub mod KeyGroups
 pub mod KeyNumbers
 pub mod KeyTable
 pub mod Locks

@@ -5,9 +5,10 @@ ghost use Rattle.iso_model.specs.ResourceKeys.{global_key};
 ghost use Rattle.iso_model.specs.declared.access.Access.TheVariants.{Read, Write};
 ghost use Rattle.iso_model.specs.declared.script.Mode.TheVariants.{SameThread, Concurrent};
 ghost use Rattle.iso_plan.specs.Conflicts.{lowest_in_the_way};
-ghost use Rattle.iso_plan.specs.Examples.{cart_and_desk, class_and_test, concurrent_by_default, concurrent_classes, keys_of_children, reading_children, writing_children, isolated_alone, isolated_deep, isolated_with_keys, first_and_second, for_children, key_k, key_l, loose, nested, one_thread, read_lock, reads, titled, two_classes, write_lock, writes};
+ghost use Rattle.iso_plan.specs.Examples.{cart_and_desk, class_and_test, concurrent_by_default, concurrent_classes, keys_of_children, keys_of_no_node, reading_children, writing_children, isolated_alone, isolated_deep, isolated_with_keys, first_and_second, for_children, key_k, key_l, loose, nested, one_thread, read_lock, reads, titled, two_classes, write_lock, writes};
 ghost use Rattle.iso_model.specs.Rights.{is_readable, is_writable};
 ghost use Rattle.iso_plan.specs.HeldNodes.{is_held, takers};
+ghost use Rattle.iso_plan.specs.KeyGroups.{are_alike, lead, lead_locks};
 ghost use Rattle.iso_plan.specs.KeyTable.{keys, kind_marks};
 ghost use Rattle.iso_plan.specs.Locks.{conflict, locking_node, locks};
 ghost use Rattle.iso_plan.specs.Merged.{merged};
@@ -107,6 +108,19 @@ pub fn marks_of_one_key_are_one()
 /// Keys are numbered where the mark is written.
 pub fn keys_are_numbered_where_they_are_written()
     ensures { keys keys_of_children ≡ global_key ∷ key_k ∷ key_l ∷ [] }
+{}
+
+/// A key's lead is the lowest key that each node takes alike: not one that a node takes in another
+/// access, nor one that some of the nodes alone take alike. Keys that no node takes are alike.
+#[tactic(auto, unfolding(crate::specs::Paths::path))]
+pub fn the_lowest_of_keys_that_are_taken_alike_leads()
+    ensures alike { are_alike keys_of_children 2 0 ≡ true }
+    ensures lowest { lead keys_of_children 2 ≡ 0 }
+    ensures access { lead keys_of_children 1 ≡ 1 }
+    ensures locks { lead_locks keys_of_children 1 ≡ read_lock 0 ∷ write_lock 1 ∷ [] }
+    ensures some_nodes { lead nested 2 ≡ 2 }
+    ensures untaken { lead keys_of_no_node 1 ≡ 1 }
+    ensures both_untaken { lead keys_of_no_node 2 ≡ 1 }
 {}
 
 /// Nodes conflict where they take one key and one of them takes it for READ_WRITE.

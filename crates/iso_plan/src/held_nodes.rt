@@ -1,5 +1,5 @@
 //! The held nodes of a plan, with how many of them read and write each key, so that what is in
-//! a node's way costs its own locks.
+//! a node's way costs its own locks. Keys that all nodes take alike are counted as one.
 ghost use Rattle.std.specs.Prelude.{◌≡◌, ◌<◌, ◌+◌, ◌^◌, IfOk, is_some, length, not};
 ghost use Rattle.std.specs.List.{All};
 ghost use Rattle.iso_plan.specs.Conflicts.{lowest_in_the_way};
@@ -17,7 +17,7 @@ use std::alloc::{AllocError, Global};
 use std::marker::Model;
 
 /// The held nodes of a plan. Contracts see these alone; beside them stands how many of them read
-/// and write each key.
+/// and write each lead of a group of keys.
 #[derive(Drop)]
 pub struct HeldNodes<'a> {
     plan: &'a Plan,
@@ -33,7 +33,7 @@ struct KeyUse {
 }
 
 impl<'a> Model for HeldNodes<'a> {
-    ghost use Rattle.iso_plan.specs.HeldNodes.{AreCounted, HeldView, held_code};
+    ghost use Rattle.iso_plan.specs.HeldNodes.{AreLeadsCounted, HeldView, held_code};
     ghost use Rattle.iso_plan.specs.RowView.{tree_of};
 
     ghost Value = { HeldView };
@@ -42,7 +42,7 @@ impl<'a> Model for HeldNodes<'a> {
 
     ghost view = { λ h. record { plan = h.plan.now; held = h.held } };
 
-    ghost invariant = { λ h. AreCounted (tree_of h.plan.now) h.held h.uses.items };
+    ghost invariant = { λ h. AreLeadsCounted (tree_of h.plan.now) h.held h.uses.items };
 }
 
 impl<'a> HeldNodes<'a> {
@@ -83,7 +83,7 @@ impl<'a> HeldNodes<'a> {
     {
         laws::nodes_are_few(self.plan);
         if !self.held.has(node as usize) {
-            let locks = self.plan.locks(node);
+            let locks = self.plan.lead_locks(node);
             self.held.put_in(node as usize);
             add(&mut self.uses, locks);
         }
@@ -95,7 +95,7 @@ impl<'a> HeldNodes<'a> {
         ensures { self.new ≡ releasing node self.old }
     {
         if self.held.has(node as usize) {
-            let locks = self.plan.locks(node);
+            let locks = self.plan.lead_locks(node);
             self.held.take_out(node as usize);
             remove(&mut self.uses, locks);
         }
@@ -106,17 +106,17 @@ impl<'a> HeldNodes<'a> {
         requires { key < length (keys (tree_of self.now.plan)) }
         ensures { result ≡ takers (tree_of self.now.plan) self.now.held access key }
     {
-        self.uses[key as usize].takers(access)
+        self.uses[self.plan.lead(key) as usize].takers(access)
     }
 
-    /// Whether a held node conflicts with a node. It looks at the node's own locks, however many
-    /// nodes are held. Takes no memory.
+    /// Whether a held node conflicts with a node. It looks at the node's own lead locks, however
+    /// many nodes are held. Takes no memory.
     pub fn excludes(&self, node: u32) -> bool
         requires { node < length self.now.plan.rows }
         ensures { result ≡ is_some
             (lowest_in_the_way (tree_of self.now.plan) (is_held self.now.held) node) }
     {
-        any_excluded(&self.uses, self.plan.locks(node))
+        any_excluded(&self.uses, self.plan.lead_locks(node))
     }
 }
 

@@ -11,6 +11,7 @@ pub mod fault;
 pub mod held_nodes;
 mod isolated;
 mod kept_nodes;
+mod key_groups;
 mod keys;
 pub mod laws;
 pub mod lock;

@@ -8,6 +8,7 @@ ghost use Rattle.iso_model.specs.Rights.{access_in};
 ghost use Rattle.iso_model.specs.ScriptView.{script_of, test_head_of};
 ghost use Rattle.iso_model.specs.declared.limits.TheConstants.{KEYS, NODES};
 ghost use Rattle.iso_plan.specs.Faults.{IsFaultOf, keys_fault, plan_fault};
+ghost use Rattle.iso_plan.specs.KeyGroups.{lead, lead_locks};
 ghost use Rattle.iso_plan.specs.KeyNumbers.{number_below};
 ghost use Rattle.iso_plan.specs.KeyTable.{keys};
 ghost use Rattle.iso_plan.specs.Locks.{effective_marks, isolates, locking_node, locks};
@@ -23,6 +24,7 @@ ghost use Rattle.iso_plan.specs.Tree.{tree};
 
 use crate::columns::{chain_all, key_all};
 use crate::fault::PlanError;
+use crate::key_groups::group_keys;
 use crate::lock::Lock;
 use crate::names::check_scripts;
 use crate::nodes::kept_rows;
@@ -59,12 +61,16 @@ pub struct Plan {
     modes: Vec<Mode>,
     /// How many classes the longest of the chains has: each tray asks for it.
     depth: usize,
+    leads: Vec<u32>,
+    /// None where each key is the lead of its group: then they are all locks.
+    lead_locks: Option<Vec<Vec<Lock>>>,
 }
 
 impl Model for Plan {
     ghost use Rattle.std.specs.Prelude.{map};
     ghost use Rattle.iso_model.specs.SyntaxCodes.{acts_code};
     ghost use Rattle.std.specs.Coded.{codes};
+    ghost use Rattle.std.specs.Option.{option_map};
     ghost use Rattle.iso_plan.specs.IsPlan.{IsPlan};
     ghost use Rattle.iso_plan.specs.Planned.{Planned};
     ghost use Rattle.iso_plan.specs.RowView.{heads_in, nodes_in, rights_in};
@@ -78,7 +84,8 @@ impl Model for Plan {
     ghost invariant = { λ p. IsPlan (nodes_in p.rows.items) p.settings
         (map (λ c. c.items) p.children.items)
         (map heads_in p.chains.items) (map rights_in p.rights.items) p.keys.items p.numbers
-        p.locking.items p.locks.items p.modes.items p.depth };
+        p.locking.items p.locks.items p.modes.items p.depth
+        p.leads.items (option_map (λ v. map (λ l. l.items) v.items) p.lead_locks) };
 }
 
 /// The plan of scripts under settings.
@@ -144,6 +151,7 @@ fn plan_of(alloc: Global, rows: Vec<Row>, settings: Settings) -> Result<Plan, Pl
     let keyed = key_all(alloc, &rows, settings)?;
     let chained = chain_all(alloc, &rows)?;
     let depth = longest(&chained.chains);
+    let groups = group_keys(alloc, &keyed.locked.locks, keyed.keys.len())?;
     Ok(Plan {
         rows,
         settings,
@@ -156,6 +164,8 @@ fn plan_of(alloc: Global, rows: Vec<Row>, settings: Settings) -> Result<Plan, Pl
         locks: keyed.locked.locks,
         modes: keyed.modes,
         depth,
+        leads: groups.leads,
+        lead_locks: groups.lists,
     })
 }
 
@@ -284,6 +294,28 @@ impl Plan {
         ensures known { All (λ l. l.key < length (keys (tree_of self.now))) result.now }
     {
         self.locks[node as usize].as_slice()
+    }
+
+    /// The lead of a key: the lowest of the keys that each node takes in the same access as this
+    /// one, or doesn't take where it doesn't take this one. Takes no memory.
+    pub fn lead(&self, key: u32) -> u32
+        requires { key < length (keys (tree_of self.now)) }
+        ensures { result ≡ lead (tree_of self.now) key }
+    {
+        self.leads[key as usize]
+    }
+
+    /// The keys that a node takes and how, of each group of keys its lead alone: it takes the
+    /// others alike. Takes no memory.
+    pub fn lead_locks(&self, node: u32) -> &[Lock]
+        requires { node < length self.now.rows }
+        ensures locks { result.now ≡ lead_locks (tree_of self.now) node }
+        ensures known { All (λ l. l.key < length (keys (tree_of self.now))) result.now }
+    {
+        match &self.lead_locks {
+            Some(lists) => &lists[node as usize],
+            None => self.locks(node),
+        }
     }
 
     /// The locking node of a node's path, which takes the keys of all its descendants: a

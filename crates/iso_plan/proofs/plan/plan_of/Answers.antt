@@ -1,15 +1,18 @@
 use Rattle.std.proofs.Common.{length, map, ap, sym, subst, ◌∙◌}
 use Rattle.std.proofs.lemmas.List.{length-map}
 use Rattle.std.proofs.lemmas.Result.{err_from_is_err_and}
-use Rattle.std.proofs.Common.{◌≡◌, ◌+◌, ◌≤◌, ℕ, List}
+use Rattle.std.proofs.Common.{◌≡◌, ◌<◌, ◌+◌, ◌≤◌, [], ℕ, List, arith, get_or}
 use Rattle.std.specs.declared.alloc.Global.{Global}
 use Rattle.std.specs.declared.sync.Arc.{Arc}
 use Rattle.std.specs.declared.vec.Vec.{Vec}
 use Rattle.iso_model.specs.declared.heads.ClassHead.{ClassHead}
 use Rattle.iso_model.specs.declared.limits.TheConstants.{KEYS}
+use Rattle.iso_plan.proofs.ColumnLemmas.{column-read, length-column}
 use Rattle.iso_plan.proofs.DepthLemmas.{depth-is}
 use Rattle.iso_plan.proofs.FaultLemmas.{keys-none, keys-refused}
+use Rattle.iso_plan.proofs.LeadLemmas.{groups-are, locks-ordered}
 use Rattle.iso_plan.specs.Faults.{IsCrowded}
+use Rattle.iso_plan.specs.KeyGroups.{AreOrdered, all_locks}
 use Rattle.iso_plan.specs.KeyNumbers.{AreNumbers}
 use Rattle.iso_plan.specs.KeyTable.{keys}
 use Rattle.iso_plan.specs.Locks.{locking_node, locks}
@@ -18,6 +21,7 @@ use Rattle.iso_plan.specs.NodeChains.{chain_classes, largest, node_rights}
 use Rattle.iso_plan.specs.Paths.{IsTree, children, column}
 use Rattle.iso_plan.specs.RowView.{heads_in, row_of}
 use Rattle.iso_plan.specs.Tree as T
+use Rattle.iso_plan.specs.declared.lock.Lock.{Lock}
 use Rattle.iso_plan.specs.declared.row.Row.{Row}
 use Rattle.iso_plan.proofs.plan.plan_of.Goals as goal
 
@@ -30,6 +34,29 @@ chain_all-requires-clause-tree c = subst Holds (sym (ap (map row_of) c.deref-2.e
 pub key_all-requires-clause-tree : goal.key_all-requires-clause-tree
 key_all-requires-clause-tree c = subst Holds (sym (ap (map row_of) c.deref.ensures.value)) c.requires.tree
 
+-- the locks of all nodes, as the groups are made of them
+taken-are : (rows : List Row) (lists : List (List Lock)) → lists ≡ column (locks (map row_of rows)) (length rows) → lists ≡ all_locks (map row_of rows)
+taken-are rows lists e = e ∙ ap (column (locks (map row_of rows))) (sym (length-map rows row_of))
+
+pub group_keys-requires-clause-few : goal.group_keys-requires-clause-few
+group_keys-requires-clause-few c =
+    let few : length c.in_ok-keyed.keyed.keys.items ≤ 256 = c.in_ok-keyed.ensures.few in
+    omega (arith, c.len.ensures, c.in_ok-keyed.keyed.keys.ok.0)
+
+pub group_keys-requires-clause-ordered : goal.group_keys-requires-clause-ordered
+group_keys-requires-clause-ordered c = λ n h.
+    let v = c.args.rows in
+    let tree = map row_of v.items in
+    let keyed = c.in_ok-keyed.ensures.keyed in
+    let size : c.len.result ≡ length c.in_ok-keyed.keyed.keys.items = omega (arith, c.len.ensures, c.in_ok-keyed.keyed.keys.ok.0) in
+    let table : c.len.result ≡ length (keys tree) = size ∙ ap length (keyed.keys_are ∙ ap (λ (rs : List Row). keys (map row_of rs)) c.deref.ensures.value) in
+    let taken : c.deref-4.result.now ≡ column (locks tree) (length v.items) =
+    c.deref-4.ensures.value ∙ keyed.locked.locks_are ∙ ap (λ (rs : List Row). column (locks (map row_of rs)) (length rs)) c.deref.ensures.value in
+    let within : n < length v.items =
+    subst (λ (k : ℕ). n < k) (ap length taken ∙ length-column (locks tree) (length v.items)) h in
+    let this : get_or (c.deref-4.result.now) n [] ≡ locks tree n = column-read (locks tree) (c.deref-4.result.now) (length v.items) n [] taken within in
+    subst (λ (k : ℕ). AreOrdered k (get_or (c.deref-4.result.now) n [])) (sym table) (subst (AreOrdered (length (keys tree))) (sym this) (locks-ordered tree n))
+
 pub invariant_of-result : goal.invariant_of-result
 invariant_of-result c =
     let v = c.args.rows in
@@ -38,6 +65,11 @@ invariant_of-result c =
     let count : length tree ≡ length v.items = length-map v.items row_of in
     let chained = c.in_ok-chained.ensures in
     let keyed = c.in_ok-keyed.ensures.keyed in
+    let taken : c.deref-4.result.now ≡ column (locks tree) (length v.items) =
+    c.deref-4.ensures.value ∙ keyed.locked.locks_are ∙ ap (λ (rs : List Row). column (locks (map row_of rs)) (length rs)) c.deref.ensures.value in
+    let size : c.len.result ≡ length c.in_ok-keyed.keyed.keys.items = omega (arith, c.len.ensures, c.in_ok-keyed.keyed.keys.ok.0) in
+    let table : c.len.result ≡ length (keys tree) = size ∙ ap length (keyed.keys_are ∙ ap (λ (rs : List Row). keys (map row_of rs)) c.deref.ensures.value) in
+    let groups = groups-are tree c.len.result (c.deref-4.result.now) c.in_ok-groups.groups (taken-are v.items (c.deref-4.result.now) taken) table c.in_ok-groups.ensures in
     record {
       is_tree = c.requires.tree;
       in_order = c.requires.order;
@@ -60,6 +92,8 @@ invariant_of-result c =
       deepest_is =
           c.longest-depth.ensures ∙ ap (λ (cs : List (Arc (Vec (Arc ClassHead Global) Global) Global)). largest (map (λ heads. length heads) (map heads_in cs))) c.deref-3.ensures.value
           ∙ depth-is tree _ (chained.chains_are ∙ ap (λ (rs : List Row). column (chain_classes (map row_of rs)) (length rs)) c.deref-2.ensures.value ∙ ap (column (chain_classes tree)) (sym count));
+      leads_are = groups.0;
+      lead_locks_are = groups.1;
     }
 
 pub returns-in_err-keyed-clause-refused : goal.returns-in_err-keyed-clause-refused

@@ -1,12 +1,11 @@
 use Rattle.std.proofs.Common.{◌≡◌, ◌<◌, ◌^◌, Bool, List, ap, arith, false, length, refl, set, subst, sym, true, ◌∙◌}
 use Rattle.iso_model.specs.declared.limits.TheConstants.{NODES}
-use Rattle.iso_plan.specs.HeldNodes.{AreCounted, CanAdd, HeldView, added, is_held}
-use Rattle.iso_plan.specs.Locks.{locks}
+use Rattle.iso_plan.specs.HeldNodes.{AreLeadsCounted, CanAdd, HeldView, added, is_held}
+use Rattle.iso_plan.specs.KeyGroups.{lead_locks}
 use Rattle.iso_plan.specs.RowView.{tree_of}
 use Rattle.iso_plan.specs.declared.held_nodes.KeyUse.{KeyUse}
 use Rattle.iso_plan.specs.declared.lock.Lock.{Lock}
-use Rattle.iso_plan.proofs.HeldLemmas.{counted-more, known-locks, room}
-use Rattle.iso_plan.proofs.MergeLemmas.{locks-rise}
+use Rattle.iso_plan.proofs.LeadLemmas.{counted-more, room}
 use Rattle.iso_plan.proofs.held_nodes.HeldNodes.hold.Goals as goal
 
 pub add-requires : goal.add-requires
@@ -15,8 +14,8 @@ add-requires c =
     let uses : List KeyUse = c.self.inside.uses.items in
     let limit : NODES ≡ 4096 = refl in
     let few : length tree < 2 ^ 63 = omega (arith, limit, c.nodes_are_few.ensures) in
-    subst (λ (ls : List Lock). CanAdd ls uses) (sym c.locks-locks.ensures.locks)
-    (room tree c.self.inside.held uses (locks tree c.args.node) (locks-rise tree c.args.node) (known-locks tree uses c.args.node c.self.invariant.table) few c.self.invariant)
+    subst (λ (ls : List Lock). CanAdd ls uses) (sym c.lead_locks-locks.ensures.locks)
+    (room tree c.self.inside.held uses c.args.node few c.self.invariant)
 
 pub invariant_of-self : goal.invariant_of-self
 invariant_of-self c =
@@ -25,10 +24,10 @@ invariant_of-self c =
     let uses : List KeyUse = c.self.inside.uses.items in
     let same : length tree ≡ length c.args.self.now.plan.rows = ap (λ (v : HeldView). length v.plan.rows) c.self.view_is in
     let within : c.args.node < length tree = omega (arith, c.requires) in
-    let is : c.add.new.uses.items ≡ added (locks tree c.args.node) uses = c.add.ensures ∙ ap (λ (ls : List Lock). added ls uses) c.locks-locks.ensures.locks in
+    let is : c.add.new.uses.items ≡ added (lead_locks tree c.args.node) uses = c.add.ensures ∙ ap (λ (ls : List Lock). added ls uses) c.lead_locks-locks.ensures.locks in
     let free : is_held held c.args.node ≡ false = sym c.has.ensures ∙ c.if-not-has.true in
-    subst (λ (hs : List Bool). AreCounted tree hs c.add.new.uses.items) (sym c.put_in.ensures) (subst (AreCounted tree (set held c.args.node true)) (sym is)
-    (counted-more tree held uses c.args.node within (locks-rise tree c.args.node) (known-locks tree uses c.args.node c.self.invariant.table) free c.self.invariant))
+    subst (λ (hs : List Bool). AreLeadsCounted tree hs c.add.new.uses.items) (sym c.put_in.ensures) (subst (AreLeadsCounted tree (set held c.args.node true)) (sym is)
+    (counted-more tree held uses c.args.node within free c.self.invariant))
 
 pub has-requires : goal.has-requires
 has-requires c =

@@ -2,7 +2,7 @@ use Rattle.std.proofs.Common.{rules, ◌≡◌, length, replicate, false}
 use Rattle.iso_plan.specs.HeldNodes.{unused}
 use Rattle.iso_plan.specs.KeyTable.{keys}
 use Rattle.iso_plan.specs.RowView.{tree_of}
-use Rattle.iso_plan.proofs.HeldLemmas.{counted-none}
+use Rattle.iso_plan.proofs.LeadLemmas.{counted-none}
 use Rattle.iso_plan.proofs.held_nodes.HeldNodes.new.Goals as goal
 
 pub invariant_of-result : goal.invariant_of-result

@@ -1,11 +1,10 @@
 use Rattle.std.proofs.Common.{◌≡◌, ◌<◌, Bool, List, ap, arith, false, length, set, subst, sym, true, ◌∙◌}
-use Rattle.iso_plan.specs.HeldNodes.{AreCounted, CanRemove, HeldView, is_held, removed}
-use Rattle.iso_plan.specs.Locks.{locks}
+use Rattle.iso_plan.specs.HeldNodes.{AreLeadsCounted, CanRemove, HeldView, is_held, removed}
+use Rattle.iso_plan.specs.KeyGroups.{lead_locks}
 use Rattle.iso_plan.specs.RowView.{tree_of}
 use Rattle.iso_plan.specs.declared.held_nodes.KeyUse.{KeyUse}
 use Rattle.iso_plan.specs.declared.lock.Lock.{Lock}
-use Rattle.iso_plan.proofs.HeldLemmas.{counted-less, known-locks, there}
-use Rattle.iso_plan.proofs.MergeLemmas.{locks-rise}
+use Rattle.iso_plan.proofs.LeadLemmas.{counted-less, there}
 use Rattle.iso_plan.proofs.held_nodes.HeldNodes.release.Goals as goal
 
 pub remove-requires : goal.remove-requires
@@ -17,8 +16,8 @@ remove-requires c =
     let fits = c.self.invariant.nodes in
     let within : c.args.node < length tree = omega (arith, c.requires) in
     let held_before : is_held held c.args.node ≡ true = sym c.has.ensures ∙ c.if-has.true in
-    subst (λ (ls : List Lock). CanRemove ls uses) (sym c.locks-locks.ensures.locks)
-    (there tree held uses c.args.node within (locks-rise tree c.args.node) (known-locks tree uses c.args.node c.self.invariant.table) held_before c.self.invariant)
+    subst (λ (ls : List Lock). CanRemove ls uses) (sym c.lead_locks-locks.ensures.locks)
+    (there tree held uses c.args.node within held_before c.self.invariant)
 
 pub invariant_of-self : goal.invariant_of-self
 invariant_of-self c =
@@ -29,9 +28,9 @@ invariant_of-self c =
     let fits = c.self.invariant.nodes in
     let within : c.args.node < length tree = omega (arith, c.requires) in
     let held_before : is_held held c.args.node ≡ true = sym c.has.ensures ∙ c.if-has.true in
-    let is : c.remove.new.uses.items ≡ removed (locks tree c.args.node) uses = c.remove.ensures ∙ ap (λ (ls : List Lock). removed ls uses) c.locks-locks.ensures.locks in
-    subst (λ (hs : List Bool). AreCounted tree hs c.remove.new.uses.items) (sym c.take_out.ensures) (subst (AreCounted tree (set held c.args.node false)) (sym is)
-    (counted-less tree held uses c.args.node within (locks-rise tree c.args.node) (known-locks tree uses c.args.node c.self.invariant.table) held_before c.self.invariant))
+    let is : c.remove.new.uses.items ≡ removed (lead_locks tree c.args.node) uses = c.remove.ensures ∙ ap (λ (ls : List Lock). removed ls uses) c.lead_locks-locks.ensures.locks in
+    subst (λ (hs : List Bool). AreLeadsCounted tree hs c.remove.new.uses.items) (sym c.take_out.ensures) (subst (AreLeadsCounted tree (set held c.args.node false)) (sym is)
+    (counted-less tree held uses c.args.node within held_before c.self.invariant))
 
 pub has-requires : goal.has-requires
 has-requires c =
