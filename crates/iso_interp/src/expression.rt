@@ -18,9 +18,9 @@ use crate::value::{Given, Value};
 use iso_model::fault::Fault;
 use iso_model::names::Names;
 use iso_model::rights::Rights;
-use iso_model::text::Text;
 use iso_model::touch::Touch;
 use iso_model::tree::{Comparison, Expr, Operator};
+use iso_model::tree_text::TreeText;
 use std::alloc::{AllocError, Global};
 
 /// The value of an expression, or its first fault. Operands are evaluated from the left, each once.
@@ -268,7 +268,7 @@ fn joined_to<'a>(
 }
 
 /// The value of a name.
-fn named<'a>(alloc: Global, names: &'a Names, name: &Text) -> Result<Value<'a>, Interrupt>
+fn named<'a>(alloc: Global, names: &'a Names, name: &TreeText) -> Result<Value<'a>, Interrupt>
     ensures { Answers data_of result
         (or_fault (option_map (λ (b : Binding). b.value) (binding_of names.now.names name.now))
         (Faults.UnknownName name.now)) }

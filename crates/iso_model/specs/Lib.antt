@@ -37,4 +37,5 @@ pub mod Targets
 pub mod Tests
 pub mod Texts
 pub mod Touch
+pub mod TreeTexts
 pub mod Verdicts

@@ -35,3 +35,4 @@ pub mod text;
 pub mod touch;
 pub mod touch_laws;
 pub mod tree;
+pub mod tree_text;

@@ -1,5 +1,5 @@
 use crate::data::Data;
-use crate::text::Text;
+use crate::tree_text::TreeText;
 
 /// What joins the operands of a chain, grouped to the left.
 #[derive(Clone, Copy)]
@@ -53,7 +53,7 @@ pub enum TwoOperands {
 #[derive(Drop)]
 pub enum Expr {
     Literal(Data),
-    Name(Text),
+    Name(TreeText),
     /// The first operand, and those after an operator each.
     Chain(Operator, Box<Expr>, Vec<Expr>),
     Compare(Comparison, Box<Expr>, Box<Expr>),
@@ -76,13 +76,13 @@ pub type Block = Vec<Stmt>;
 #[derive(Drop)]
 #[cycle(statement)]
 pub enum Form {
-    Let(Text, Expr),
-    Assign(Text, Expr),
+    Let(TreeText, Expr),
+    Assign(TreeText, Expr),
     One(OneOperand, Expr),
     Two(TwoOperands, Expr, Expr),
     /// The condition, and the reason.
-    Assume(Expr, Text),
-    Fail(Text),
+    Assume(Expr, TreeText),
+    Fail(TreeText),
     /// The condition, the body where it holds, and the one where it doesn't: empty without `else`.
     If(Expr, Vec<Stmt>, Vec<Stmt>),
     /// The number of turns, and the body.

@@ -22,6 +22,7 @@ use iso_model::data::Data;
 use iso_model::limits::{OPERANDS, PARENTHESES};
 use iso_model::text::Text;
 use iso_model::tree::{Comparison, Expr, Function, Operator};
+use iso_model::tree_text::TreeText;
 use iso_script_lexer::symbol::Symbol;
 use iso_script_lexer::token::Token;
 use iso_script_lexer::word::Word;
@@ -186,7 +187,7 @@ impl Parser<'_> {
         }
         if let Some(name) = self.name_ahead() {
             self.lexer.advance();
-            return Ok(Expr::Name(Text::copied(self.alloc, name)?));
+            return Ok(Expr::Name(TreeText::copied(self.alloc, name)?));
         }
         // Most literals are numbers: one is written to where it stays, and not handed on.
         if let Token::Number(number) = self.lexer.peek().0

@@ -14,6 +14,7 @@ use crate::parser::Parser;
 use crate::wanted::Wanted;
 use iso_model::text::Text;
 use iso_model::tree::{Expr, Form, OneOperand, TwoOperands};
+use iso_model::tree_text::TreeText;
 use iso_script_lexer::symbol::Symbol;
 use iso_script_lexer::token::Token;
 use iso_script_lexer::word::Word;
@@ -51,10 +52,10 @@ fn simple_of(word: Word) -> Option<Simple>
 }
 
 /// An expression with its name.
-fn named(alloc: Global, name: &str, value: Expr) -> Result<(Text, Expr), ScriptError>
+fn named(alloc: Global, name: &str, value: Expr) -> Result<(TreeText, Expr), ScriptError>
     ensures { MatchResult result (λ b. binding_of b ≡ (name.now, term_of value)) IsMemory }
 {
-    Ok((Text::copied(alloc, name)?, value))
+    Ok((TreeText::copied(alloc, name)?, value))
 }
 
 impl Parser<'_> {
@@ -113,7 +114,7 @@ impl Parser<'_> {
         let condition = self.expression_before(Symbol::Comma)?;
         let reason = self.display()?;
         self.expect(Symbol::Semicolon)?;
-        Ok(Form::Assume(condition, reason))
+        Ok(Form::Assume(condition, TreeText::of(reason)))
     }
 
     /// What follows `fail`.
@@ -122,11 +123,12 @@ impl Parser<'_> {
     {
         let message = self.text()?;
         self.expect(Symbol::Semicolon)?;
-        Ok(Form::Fail(Text::new(message.decode(self.alloc)?)))
+        let decoded = Text::new(message.decode(self.alloc)?);
+        Ok(Form::Fail(TreeText::of(decoded)))
     }
 
     /// A name, and the expression that it gets. Where no name is next, this is wanted.
-    pub(crate) fn binding(&mut self, wanted: Wanted) -> Result<(Text, Expr), ScriptError>
+    pub(crate) fn binding(&mut self, wanted: Wanted) -> Result<(TreeText, Expr), ScriptError>
         requires { name_next self.old.lexer ≡ None → IsUnmet wanted self.old.lexer }
         ensures { Parses binding_of IsBinding result self.old.lexer self.new.lexer }
     {

@@ -15,6 +15,7 @@ use iso_model::fault::Fault;
 use iso_model::text::Text;
 use iso_model::touch::Touch;
 use iso_model::tree::Expr;
+use iso_model::tree_text::TreeText;
 use std::alloc::{AllocError, Global};
 
 impl<'a> BlockRun<'a> {
@@ -120,7 +121,7 @@ impl<'a> BlockRun<'a> {
         touch: &T,
         row: u32,
         expression: &Expr,
-        reason: &Text,
+        reason: &TreeText,
     ) -> Result<(), AllocError>
         requires { HasKeys (run_rights self.old) (T.content touch.now) (T.writes touch.now) }
         ensures done { Performs self.old self.new (T.content touch.now) (T.content touch.now) row
@@ -139,7 +140,7 @@ impl<'a> BlockRun<'a> {
     }
 
     /// `fail MESSAGE;`
-    pub(super) fn fail_with(&mut self, row: u32, message: &Text) -> Result<(), AllocError>
+    pub(super) fn fail_with(&mut self, row: u32, message: &TreeText) -> Result<(), AllocError>
         ensures done { OnOk result (local_of self.new
             ≡ failed row message.now (local_of self.old)) }
         ensures work { SameWork self.old self.new }

@@ -14,9 +14,9 @@ use crate::run::BlockRun;
 use iso_model::data::Data;
 use iso_model::fault::Fault;
 use iso_model::names::AssignFault;
-use iso_model::text::Text;
 use iso_model::touch::Touch;
 use iso_model::tree::Expr;
+use iso_model::tree_text::TreeText;
 use std::alloc::AllocError;
 
 impl<'a> BlockRun<'a> {
@@ -25,7 +25,7 @@ impl<'a> BlockRun<'a> {
         &mut self,
         touch: &T,
         row: u32,
-        name: &Text,
+        name: &TreeText,
         expression: &Expr,
     ) -> Result<(), AllocError>
         requires { HasKeys (run_rights self.old) (T.content touch.now) (T.writes touch.now) }
@@ -40,7 +40,7 @@ impl<'a> BlockRun<'a> {
     }
 
     /// Adds a local, unless its name is visible already.
-    fn declare(&mut self, row: u32, name: &Text, value: Data) -> Result<(), AllocError>
+    fn declare(&mut self, row: u32, name: &TreeText, value: Data) -> Result<(), AllocError>
         ensures done { OnOk result ((m : Resources) → state_of self.new m
             ≡ declares row name.now value (state_of self.old m)) }
         ensures work { SameWork self.old self.new }
@@ -58,7 +58,7 @@ impl<'a> BlockRun<'a> {
         &mut self,
         touch: &T,
         row: u32,
-        name: &Text,
+        name: &TreeText,
         expression: &Expr,
     ) -> Result<(), AllocError>
         requires { HasKeys (run_rights self.old) (T.content touch.now) (T.writes touch.now) }
@@ -97,7 +97,7 @@ impl<'a> BlockRun<'a> {
     /// Sets a name to any value. Most assign a number, so this stays out of what each assignment
     /// does.
     #[inline(never)]
-    fn set_value(&mut self, row: u32, name: &Text, value: Data) -> Result<(), AllocError>
+    fn set_value(&mut self, row: u32, name: &TreeText, value: Data) -> Result<(), AllocError>
         ensures done { OnOk result ((m : Resources) → state_of self.new m
             ≡ upon row (assigned self.old.names.names name.now value) (state_of self.old m)
             (λ names. locally (with_names names) (state_of self.old m))) }
@@ -108,7 +108,7 @@ impl<'a> BlockRun<'a> {
 
     /// Sets a name that is visible and isn't frozen.
     #[inline(always)]
-    fn set(&mut self, row: u32, name: &Text, value: Data) -> Result<(), AllocError>
+    fn set(&mut self, row: u32, name: &TreeText, value: Data) -> Result<(), AllocError>
         ensures done { OnOk result ((m : Resources) → state_of self.new m
             ≡ upon row (assigned self.old.names.names name.now value) (state_of self.old m)
             (λ names. locally (with_names names) (state_of self.old m))) }
@@ -123,7 +123,7 @@ impl<'a> BlockRun<'a> {
     /// Ends the block, since a name can't be assigned. Few do, so this stays out of what each
     /// assignment does.
     #[inline(never)]
-    fn refuse(&mut self, row: u32, name: &Text, fault: AssignFault) -> Result<(), AllocError>
+    fn refuse(&mut self, row: u32, name: &TreeText, fault: AssignFault) -> Result<(), AllocError>
         ensures ended { OnOk result ((m : Resources) → state_of self.new m
             ≡ upon row (assignment (Err fault) name.now self.old.names.names)
             (state_of self.old m)
