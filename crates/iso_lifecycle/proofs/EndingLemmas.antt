@@ -1,6 +1,7 @@
 -- Endings of which those at the front are counted.
 use Rattle.std.proofs.Common.{◌≡◌, ℕ, zero, suc, ◌+◌, ◌<◌, List, [], ◌∷◌, ◌++◌, replicate, length, ◌==◌, true, false, true≢false, refl, ap, ◌∙◌, sym, add-one, append-nil, arith}
 use Rattle.std.proofs.lemmas.Grind.{common_steps}
+use Rattle.std.proofs.lemmas.List.{replicate-append-replicate}
 use Rattle.std.specs.List.{list_all}
 use Rattle.iso_model.specs.Bodies.{first_ending}
 use Rattle.iso_model.specs.Statements.{is_well}
@@ -51,3 +52,18 @@ others-count (suc n) others = others-count n others
 pub begin-more : (others : List Ending) (e : Ending) → BeginIll others → (length others ≡ 0 → is_well e ≡ false) → BeginIll (others ++ e ∷ [])
 begin-more [] e ill first = first refl
 begin-more (x ∷ xs) e ill first = ill
+
+none-other : (others : List Ending) → (length others == 0) ≡ true → others ≡ []
+none-other [] h = refl
+none-other (e ∷ es) h = absurd (true≢false (sym h ∙ some (length es)))
+
+-- more that are well, where all are
+pub counted-more : (n m k : ℕ) (others : List Ending) → BeginIll others → list_all is_well (replicate n Well ++ others) ≡ true → m ≡ n + k
+    → replicate m Well ++ others ≡ (replicate n Well ++ others) ++ replicate k Well
+counted-more n m k others ill all more =
+    let none : others ≡ [] = none-other others (sym (all-well n others ill) ∙ all) in
+    (λ i. replicate (more i) Well ++ none i) ∙ append-nil (replicate (n + k) Well) ∙ sym (replicate-append-replicate n k Well)
+    ∙ ap (λ (es : List Ending). es ++ replicate k Well) (sym (append-nil (replicate n Well)) ∙ ap (λ (es : List Ending). replicate n Well ++ es) (sym none))
+
+pub still-all : (n m : ℕ) (others : List Ending) → BeginIll others → list_all is_well (replicate n Well ++ others) ≡ true → list_all is_well (replicate m Well ++ others) ≡ true
+still-all n m others ill all = all-well m others ill ∙ sym (all-well n others ill) ∙ all

@@ -14,7 +14,7 @@ use Rattle.iso_lifecycle.specs.declared.job.Job.{Job}
 use Rattle.iso_lifecycle.specs.declared.job.Job.TheVariants.{BeforeEach, Test, AfterEach}
 use Rattle.iso_lifecycle.specs.JobPlaces.{after_each_inside, job_after, first_job, IsPlaced, classes_seen, head_at, job_at, job_words, jobs_from, outside, own_job}
 
-drop-all : {A : Type 0} (xs : List A) → drop (length xs) xs ≡ []
+pub drop-all : {A : Type 0} (xs : List A) → drop (length xs) xs ≡ []
 drop-all [] = refl
 drop-all (x ∷ xs) = drop-all xs
 
@@ -28,7 +28,7 @@ length-outside os d less = length-reverse (take d os) ∙ length-take-le d os le
 pub outside-all : (os : List ClassHead) → outside os (length os) ≡ reverse os
 outside-all os = ap reverse (take_all (length os) os (omega arith))
 
-length-before : (cs : List ClassHead) → length (before_each_jobs cs) ≡ length cs
+pub length-before : (cs : List ClassHead) → length (before_each_jobs cs) ≡ length cs
 length-before [] = refl
 length-before (c ∷ cs) = length-append (before_each_jobs cs) (before_each_job c cs ∷ []) ∙ ap (λ n. n + 1) (length-before cs) ∙ add-one (length cs)
 
@@ -54,7 +54,7 @@ dropped (suc d) [] j qs xs e is = absurd (omega arith)
 dropped (suc d) (p ∷ ps) j qs xs e is = rw is (dropped d ps j qs (ps ++ j ∷ qs) (omega arith) refl)
 
 -- the `before_each` jobs from a depth on
-before-from : (os : List ClassHead) (d : ℕ) → d < length os
+pub before-from : (os : List ClassHead) (d : ℕ) → d < length os
     → drop d (before_each_jobs (reverse os)) ≡ before_each_job (head_at os d) (outside os d) ∷ drop (suc d) (before_each_jobs (reverse os))
 before-from os d less =
     let inner = reverse (drop (suc d) os) in
@@ -65,7 +65,7 @@ before-from os d less =
     ap before_each_jobs (split os d) ∙ before-append inner (outside os (suc d)) ∙ ap (λ cs. before_each_jobs cs ++ qs) (outside-more os d less) ∙ append_assoc ps (j ∷ []) qs in
     dropped d ps j qs (before_each_jobs (reverse os)) (length-before (outside os d) ∙ length-outside os d (omega arith)) whole
 
-after-inside : (os : List ClassHead) (body : Acts) (n : ℕ) → n ≤ length os → jobs_from os body (after_each_inside n) ≡ after_each_jobs (outside os n)
+pub after-inside : (os : List ClassHead) (body : Acts) (n : ℕ) → n ≤ length os → jobs_from os body (after_each_inside n) ≡ after_each_jobs (outside os n)
 after-inside os body zero less = refl
 after-inside os body (suc d) less = refl
 

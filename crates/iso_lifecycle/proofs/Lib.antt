@@ -2,6 +2,7 @@ pub mod Barring
 pub mod Beginnings
 pub mod Combined
 pub mod Comings
+pub mod EmptyBlocks
 pub mod EndingLemmas
 pub mod ExampleResults
 pub mod FirstKinds

@@ -1,5 +1,5 @@
 -- Where a run of a body stands.
-use Rattle.std.specs.Prelude.{ℕ, Option, Some, None}
+use Rattle.std.specs.Prelude.{Option, Some, None}
 use Rattle.iso_model.specs.Bodies.{Account, Stage, ended, stage_at, stage_from}
 use Rattle.iso_model.specs.Rights.{Rights, access_in}
 use Rattle.iso_interp.specs.Runs.{local_of, names_before, pieces_of}
@@ -30,7 +30,7 @@ settled_with (Some run) r = stage_at (stage_from (jobs_left r)) (pieces_of run) 
 abbrev pub settled_stage : BodyRun → Stage
 settled_stage run = settled_with run.block run.rest
 
--- what an ended body left, which printed `printed` bytes
-abbrev pub end_account : BodyEnd → ℕ → Account
-end_account end printed =
-    record { names = end.names; printed = printed; lines = end.output; endings = end.endings }
+-- what an ended body had that left this, with the names and the count of bytes of `a`
+abbrev pub end_account : BodyEnd → Account → Account
+end_account end a =
+    record { names = a.names; printed = a.printed; lines = end.output; endings = end.endings }

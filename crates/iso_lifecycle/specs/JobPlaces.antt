@@ -33,6 +33,10 @@ abbrev pub first_job : ℕ → Job
 first_job zero = Test
 first_job (suc n) = BeforeEach 0
 
+-- the `before_each` of the class at a depth, and behind those of `n` classes the test's own block
+abbrev pub before_job : ℕ → ℕ → Job
+before_job n d = cond (nat_lt d n) (BeforeEach d) Test
+
 -- a job's class is one of `n`
 abbrev pub IsPlaced : ℕ → Option Job → Type 0
 IsPlaced n None = Unit {0}

@@ -13,6 +13,7 @@ use crate::body_run::BodyRun;
 use crate::frame::{Frame, are_of_classes};
 use crate::kind::BodyKind;
 use crate::names::{add_variables, statics_of, test_names};
+use crate::opening::LeftFrame;
 use crate::origin::Origin;
 use iso_model::bindings::Bindings;
 use iso_model::heads::ClassContents;
@@ -27,7 +28,7 @@ use std::alloc::{AllocError, Global};
 pub(crate) struct Beginning<'a> {
     pub(crate) run: Box<BodyRun<'a>>,
     pub(crate) outer: usize,
-    pub(crate) frame: Option<Frame>,
+    pub(crate) frame: Option<LeftFrame>,
 }
 
 impl<'a> Origin<'a> {

@@ -10,13 +10,13 @@ ghost use Rattle.iso_lifecycle.specs.WholeBodies.{CanBegin, IsAfterBody};
 
 use crate::beginning::Beginning;
 use crate::body_run::BodyRun;
-use crate::done::{Closed, Done, Opened, What};
+use crate::done::{Closed, Done, What};
 use crate::frame::Frame;
 use crate::gate::Gate;
+use crate::kept::KeptOutcome;
 use crate::kind::BodyKind;
+use crate::opening::LeftFrame;
 use crate::origin::Origin;
-use crate::verdict::verdict;
-use iso_model::outcome::Outcome;
 use iso_model::touch::Touch;
 use iso_plan::laws;
 use iso_plan::plan::Plan;
@@ -32,7 +32,7 @@ pub struct Body<'a> {
     pub(crate) origin: Origin<'a>,
     pub(crate) run: Box<BodyRun<'a>>,
     outer: usize,
-    frame: Option<Frame>,
+    frame: Option<LeftFrame>,
     ghost outer_is: { outer ≡ outer_names (kind_of_origin origin) (subject_of_origin origin) },
     ghost rights: { HasRights (subject_of_origin origin) (rights_of run.value) } by { HasRights-prop (subject_of_origin origin) (rights_of run.value) },
     ghost come: { HasCome (kind_of_origin origin) (subject_of_origin origin) (stage_of run.value) } by { HasCome-prop (kind_of_origin origin) (subject_of_origin origin) (stage_of run.value) },
@@ -212,26 +212,22 @@ impl<'a> Body<'a> {
             ..
         } = self;
         laws::chains_grow_down(origin.plan);
-        let end = Box::into_inner(run).finish();
+        let mut run = run;
+        let end = run.finish();
         // What no end keeps is dropped by calls: its parts then stand in the proofs of those alone.
-        drop(end.names);
+        drop(run);
         match origin.kind {
             BodyKind::BeforeAll => {
                 let Some(frame) = frame else {
                     unreachable!();
                 };
-                origin.done(What::Opened(Opened {
-                    frame,
-                    ending: end.endings.into_first(),
-                    lines: end.output,
-                }))
+                let opening = frame.opened(end.endings.into_first(), end.output);
+                origin.done(What::Opened(opening))
             }
             BodyKind::Test => {
                 drop(frame);
-                origin.done(What::Tested(Outcome {
-                    verdict: verdict(end.endings),
-                    output: end.output,
-                }))
+                let outcome = KeptOutcome::new(end.endings.into_others(), end.output);
+                origin.done(What::Tested(outcome))
             }
             BodyKind::AfterAll => {
                 drop(frame);

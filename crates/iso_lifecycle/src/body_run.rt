@@ -26,15 +26,15 @@ use iso_model::text::Text;
 use iso_model::touch::Touch;
 use iso_model::tree::Stmt;
 use std::alloc::{AllocError, Global};
+use std::mem;
 use std::sync::Arc;
 
-/// What an ended body leaves: the endings of the blocks that were done, in order, the lines that
-/// they printed, and its names.
+/// What an ended body leaves: the endings of the blocks that were done, in order, and the lines
+/// that they printed.
 #[derive(Drop)]
 pub(crate) struct BodyEnd {
     pub endings: Endings,
     pub output: Lines,
-    pub names: Bindings,
 }
 
 /// A run of a body (JUnit 5, test lifecycle), one step at a time. After running out of memory it
@@ -261,20 +261,19 @@ impl<'a> BodyRun<'a> {
         self.block.is_none()
     }
 
-    /// What the body leaves, once it has ended. Takes no memory.
-    pub(crate) fn finish(self) -> BodyEnd
-        requires { is_ended (stage_of self) ≡ true }
-        ensures { stage_of self.entry ≡ ended
-            (end_account result (account_in_run self.entry).printed) }
+    /// What the body leaves, once it has ended; its run is only dropped then. Takes no memory.
+    pub(crate) fn finish(&mut self) -> BodyEnd
+        requires { is_ended (stage_of self.old) ≡ true }
+        ensures { stage_of self.old ≡ ended (end_account result (account_in_run self.old)) }
     {
-        let BodyRun { rest, .. } = self;
-        let mut output = rest.lines;
+        let rest = &mut self.rest;
+        let alloc = rest.alloc;
+        let mut output = mem::replace(&mut rest.lines, Lines::new(alloc));
         // What a body came to is kept until the end of the run.
         output.shrink_to_fit();
         BodyEnd {
-            endings: rest.endings,
+            endings: mem::replace(&mut rest.endings, Endings::new(alloc)),
             output,
-            names: rest.names,
         }
     }
 

@@ -3,10 +3,11 @@ ghost use Rattle.std.specs.Prelude.{◌≡◌};
 ghost use Rattle.iso_lifecycle.specs.Ends.{ends_well};
 
 use crate::frame::Frame;
+use crate::kept::{KeptEnding, KeptOutcome};
 use crate::kind::BodyKind;
-use crate::verdict::{is_unfailed, is_well};
+use crate::opening::KeptOpening;
+use crate::verdict::is_unfailed;
 use iso_model::lines::Lines;
-use iso_model::outcome::{Ending, Outcome};
 use iso_plan::plan::Plan;
 use iso_settings::world::World;
 use std::marker::Model;
@@ -16,22 +17,22 @@ use std::snapshot::Snapshot;
 #[derive(Drop)]
 pub(crate) struct Opened {
     pub(crate) frame: Frame,
-    pub(crate) ending: Ending,
+    pub(crate) ending: KeptEnding,
     pub(crate) lines: Lines,
 }
 
 /// How an `after_all` ended, and what it printed.
 #[derive(Drop)]
 pub(crate) struct Closed {
-    pub(crate) ending: Ending,
+    pub(crate) ending: KeptEnding,
     pub(crate) lines: Lines,
 }
 
 /// What a body came to.
 #[derive(Drop)]
 pub(crate) enum What {
-    Opened(Opened),
-    Tested(Outcome),
+    Opened(KeptOpening),
+    Tested(KeptOutcome),
     Closed(Closed),
 }
 
@@ -91,9 +92,9 @@ impl Done {
         ensures { result ≡ ends_well self.now.kind self.now.subject }
     {
         match &self.what {
-            What::Opened(opened) => is_well(&opened.ending),
-            What::Tested(outcome) => is_unfailed(&outcome.verdict),
-            What::Closed(closed) => is_well(&closed.ending),
+            What::Opened(opening) => opening.opened().ending.is_well(),
+            What::Tested(outcome) => is_unfailed(outcome.verdict()),
+            What::Closed(closed) => closed.ending.is_well(),
         }
     }
 }

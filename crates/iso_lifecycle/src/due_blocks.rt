@@ -3,8 +3,9 @@ ghost use Rattle.std.specs.Prelude.{◌≡◌, ◌<◌, [], ◌∷◌, ◌++◌,
 ghost use Rattle.iso_lifecycle.specs.JobPlaces.{IsPlaced, IsPlaced-prop};
 
 use crate::blocks::{names_of, part, statements};
+use crate::empty_blocks::{next_after_each, next_before_each};
 use crate::endings::Endings;
-use crate::job::Job;
+use crate::job::{Job, innermost};
 use iso_interp::block::Block;
 use iso_interp::run::{BlockEnd, BlockRun};
 use iso_model::bindings::Bindings;
@@ -45,6 +46,7 @@ impl<'a> Rest<'a> {
     ghost use Rattle.iso_interp.specs.Runs.{local_of, names_before, pieces_of, point_of_run, run_rights};
     ghost use Rattle.iso_model.specs.Rights.{access_in};
     ghost use Rattle.iso_lifecycle.specs.BodyRuns.{settled_with};
+    ghost use Rattle.iso_lifecycle.specs.declared.job.Job.TheVariants.{AfterEach, BeforeEach, Test};
     ghost use Rattle.iso_lifecycle.specs.DueBlocks.{HaveRights, SameChain, account_in, beside_in, job_in, jobs_left, stage_with};
 
     /// Ends a block, of which nothing is left to do.
@@ -162,6 +164,112 @@ impl<'a> Rest<'a> {
         Ok(true)
     }
 
+    /// Leaves the next jobs behind whose blocks have no statement, where all blocks ended well so
+    /// far: then each of these is due.
+    fn pass_empty(&mut self) -> Result<(), AllocError>
+        ensures stage { OnOk result (stage_from (jobs_left self.new) (account_in self.new)
+            ≡ stage_from (jobs_left self.old) (account_in self.old)) }
+        ensures chain { SameChain self.old self.new }
+    {
+        if !self.all_well() {
+            return Ok(());
+        }
+        self.pass_before_each()?;
+        self.pass_test()?;
+        self.pass_after_each()
+    }
+
+    /// Of the next jobs those of `before_each` blocks.
+    #[inline(always)]
+    fn pass_before_each(&mut self) -> Result<(), AllocError>
+        requires { list_all is_well self.old.endings ≡ true }
+        ensures stage { OnOk result (stage_from (jobs_left self.new) (account_in self.new)
+            ≡ stage_from (jobs_left self.old) (account_in self.old)) }
+        ensures well { OnOk result (list_all is_well self.new.endings ≡ true) }
+        ensures chain { SameChain self.old self.new }
+    {
+        match self.next {
+            Some(Job::BeforeEach(depth)) => self.pass_before_from(depth),
+            _ => Ok(()),
+        }
+    }
+
+    /// The `before_each` blocks from the class at a depth inwards.
+    #[inline(always)]
+    fn pass_before_from(&mut self, depth: usize) -> Result<(), AllocError>
+        requires next { self.old.next ≡ Some (BeforeEach depth) }
+        requires well { list_all is_well self.old.endings ≡ true }
+        ensures stage { OnOk result (stage_from (jobs_left self.new) (account_in self.new)
+            ≡ stage_from (jobs_left self.old) (account_in self.old)) }
+        ensures well { OnOk result (list_all is_well self.new.endings ≡ true) }
+        ensures chain { SameChain self.old self.new }
+    {
+        let next = next_before_each(self.classes, depth);
+        self.endings.add_well(next - depth)?;
+        self.next = Some(Job::before(next, self.classes.len()));
+        Ok(())
+    }
+
+    /// Of the next jobs the test's own.
+    #[inline(always)]
+    fn pass_test(&mut self) -> Result<(), AllocError>
+        requires { list_all is_well self.old.endings ≡ true }
+        ensures stage { OnOk result (stage_from (jobs_left self.new) (account_in self.new)
+            ≡ stage_from (jobs_left self.old) (account_in self.old)) }
+        ensures well { OnOk result (list_all is_well self.new.endings ≡ true) }
+        ensures chain { SameChain self.old self.new }
+    {
+        match self.next {
+            Some(Job::Test) if self.test.is_empty() => self.pass_empty_test(),
+            _ => Ok(()),
+        }
+    }
+
+    /// The test's own block, which has no statement.
+    #[inline(always)]
+    fn pass_empty_test(&mut self) -> Result<(), AllocError>
+        requires next { self.old.next ≡ Some Test }
+        requires empty { is_empty self.old.test ≡ true }
+        requires well { list_all is_well self.old.endings ≡ true }
+        ensures stage { OnOk result (stage_from (jobs_left self.new) (account_in self.new)
+            ≡ stage_from (jobs_left self.old) (account_in self.old)) }
+        ensures well { OnOk result (list_all is_well self.new.endings ≡ true) }
+        ensures chain { SameChain self.old self.new }
+    {
+        self.endings.add_well(1)?;
+        self.next = innermost(self.classes.len());
+        Ok(())
+    }
+
+    /// Of the next jobs those of `after_each` blocks.
+    #[inline(always)]
+    fn pass_after_each(&mut self) -> Result<(), AllocError>
+        requires { list_all is_well self.old.endings ≡ true }
+        ensures stage { OnOk result (stage_from (jobs_left self.new) (account_in self.new)
+            ≡ stage_from (jobs_left self.old) (account_in self.old)) }
+        ensures chain { SameChain self.old self.new }
+    {
+        match self.next {
+            Some(Job::AfterEach(depth)) => self.pass_after_from(depth),
+            _ => Ok(()),
+        }
+    }
+
+    /// The `after_each` blocks from the class at a depth outwards.
+    #[inline(always)]
+    fn pass_after_from(&mut self, depth: usize) -> Result<(), AllocError>
+        requires next { self.old.next ≡ Some (AfterEach depth) }
+        requires well { list_all is_well self.old.endings ≡ true }
+        ensures stage { OnOk result (stage_from (jobs_left self.new) (account_in self.new)
+            ≡ stage_from (jobs_left self.old) (account_in self.old)) }
+        ensures chain { SameChain self.old self.new }
+    {
+        let next = next_after_each(self.classes, depth + 1);
+        self.endings.add_well(depth + 1 - next)?;
+        self.next = innermost(next);
+        Ok(())
+    }
+
     /// Begins the next job, which is due and has statements, in the place of no block.
     fn begin(&mut self, job: Job, block: &mut Option<BlockRun<'a>>) -> Result<(), AllocError>
         requires next { self.old.next ≡ Some job }
@@ -190,6 +298,7 @@ impl<'a> Rest<'a> {
         ensures rights { HaveRights block.new self.old }
         ensures chain { SameChain self.old self.new }
     {
+        self.pass_empty()?;
         while let Some(job) = self.next {
             let passed = self.pass(job)?;
             if !passed {

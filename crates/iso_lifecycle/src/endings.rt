@@ -1,11 +1,13 @@
 //! The endings of a body's blocks, in order.
-ghost use Rattle.std.specs.Prelude.{◌≡◌, ◌∷◌, ◌++◌, [], OnErr, OnOk, false, vec_len};
+ghost use Rattle.std.specs.Prelude.{◌≡◌, ◌∷◌, ◌++◌, [], OnErr, OnOk, false, replicate, true, vec_len};
 ghost use Rattle.std.specs.List.{list_all};
 ghost use Rattle.iso_model.specs.Bodies.{first_ending};
 ghost use Rattle.iso_model.specs.Statements.{is_well};
 ghost use Rattle.iso_model.specs.Verdicts.{verdict};
+ghost use Rattle.iso_model.specs.declared.outcome.Ending.TheVariants.{Well};
 ghost use Rattle.iso_lifecycle.specs.Endings.{BeginIll};
 
+use crate::kept::KeptEnding;
 use crate::verdict::is_well;
 use iso_model::outcome::Ending;
 use std::alloc::{AllocError, Global};
@@ -60,6 +62,21 @@ impl Endings {
         Ok(())
     }
 
+    /// Adds as many endings that are Well to those that all are. Takes no memory.
+    #[inline(always)]
+    pub fn add_well(&mut self, count: usize) -> Result<(), AllocError>
+        requires { list_all is_well self.old ≡ true }
+        ensures ok { OnOk result (self.new ≡ self.old ++ replicate count Well) }
+        ensures well { OnOk result (list_all is_well self.new ≡ true) }
+        ensures err { OnErr result (self.new ≡ self.old) }
+    {
+        let Some(well) = self.well.checked_add(count) else {
+            return Err(AllocError);
+        };
+        self.well = well;
+        Ok(())
+    }
+
     /// Whether all of them are Well.
     pub fn all_well(&self) -> bool
         ensures { result ≡ list_all is_well self.now }
@@ -68,16 +85,15 @@ impl Endings {
     }
 
     /// The first of them, that of a body of one block; Well where there is none. Takes no memory.
-    pub fn into_first(self) -> Ending
+    pub fn into_first(self) -> KeptEnding
         ensures { result ≡ first_ending self }
     {
-        if self.well > 0 {
-            return Ending::Well;
+        let Endings { well, others } = self;
+        let mut others = others;
+        if well > 0 {
+            others.clear();
         }
-        match self.others.into_iter().next() {
-            Some(ending) => ending,
-            None => Ending::Well,
-        }
+        KeptEnding::of(others)
     }
 
     /// Those from the first on that isn't Well, which come to what all of them come to. Takes no

@@ -2,8 +2,9 @@
 ghost use Rattle.std.specs.Prelude.{◌≡◌};
 ghost use Rattle.iso_lifecycle.specs.Entries.{entry_closed, entry_with};
 
-use crate::done::{Closed, Opened, What};
-use iso_model::outcome::Outcome;
+use crate::done::{Closed, What};
+use crate::kept::KeptOutcome;
+use crate::opening::KeptOpening;
 use std::mem;
 
 /// What was put of a node: nothing yet, the outcome of a test, the `before_all` of a class, or that
@@ -11,9 +12,9 @@ use std::mem;
 #[derive(Drop)]
 pub(crate) enum Entry {
     Empty,
-    Tested(Outcome),
-    Opened(Opened),
-    Closed(Opened, Closed),
+    Tested(KeptOutcome),
+    Opened(KeptOpening),
+    Closed(KeptOpening, Closed),
 }
 
 impl Entry {

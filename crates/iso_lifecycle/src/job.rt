@@ -1,6 +1,6 @@
 //! The jobs of a test, by their place in its class chain.
 ghost use Rattle.std.specs.Prelude.{◌≡◌, ◌≤◌, Some};
-ghost use Rattle.iso_lifecycle.specs.JobPlaces.{IsPlaced, after_each_inside, classes_seen, first_job, job_after, job_words};
+ghost use Rattle.iso_lifecycle.specs.JobPlaces.{IsPlaced, after_each_inside, before_job, classes_seen, first_job, job_after, job_words};
 
 use iso_model::place::{BlockName, Lifecycle};
 
@@ -45,6 +45,19 @@ impl Job {
         }
     }
 
+    /// The `before_each` of the class at a depth, and behind those of `classes` classes the test's
+    /// own block.
+    pub(crate) fn before(depth: usize, classes: usize) -> Job
+        ensures job { result ≡ before_job classes depth }
+        ensures placed { IsPlaced classes (Some result) }
+    {
+        if depth < classes {
+            Job::BeforeEach(depth)
+        } else {
+            Job::Test
+        }
+    }
+
     /// The words that name its block.
     pub(crate) fn words(self) -> BlockName
         requires { IsPlaced 4294967295 (Some self) }
@@ -72,7 +85,7 @@ impl Job {
 }
 
 /// The `after_each` of the innermost of `classes` classes.
-fn innermost(classes: usize) -> Option<Job>
+pub(crate) fn innermost(classes: usize) -> Option<Job>
     ensures next { result ≡ after_each_inside classes }
     ensures placed { IsPlaced classes result }
 {

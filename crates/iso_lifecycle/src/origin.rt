@@ -15,6 +15,7 @@ use crate::done::{Done, What};
 use crate::frame::Frame;
 use crate::kind::BodyKind;
 use crate::names::{at_literals, frozen_past};
+use crate::opening::LeftFrame;
 use iso_model::heads::ClassHead;
 use iso_model::names::Sort;
 use iso_model::rights::Rights;
@@ -71,7 +72,7 @@ impl<'a> Origin<'a> {
         alloc: Global,
         run: &BodyRun<'_>,
         outer: usize,
-    ) -> Result<Option<Frame>, AllocError>
+    ) -> Result<Option<LeftFrame>, AllocError>
         requires outer { outer ≡ outer_names (kind_of_origin self.now)
             (subject_of_origin self.now) }
         requires come { HasCome (kind_of_origin self.now) (subject_of_origin self.now)
@@ -92,7 +93,7 @@ impl<'a> Origin<'a> {
         alloc: Global,
         run: &BodyRun<'_>,
         outer: usize,
-    ) -> Result<Option<Frame>, AllocError>
+    ) -> Result<Option<LeftFrame>, AllocError>
         requires kind { kind_of_origin self.now ≡ BodyKind.BeforeAll }
         requires outer { outer ≡ outer_names (kind_of_origin self.now)
             (subject_of_origin self.now) }
@@ -107,7 +108,7 @@ impl<'a> Origin<'a> {
         let statics = self.statics(alloc, run, outer)?;
         let fields = self.fields(alloc)?;
         let frame = Frame::new(alloc, self.plan, &self.start, self.node, statics, fields)?;
-        Ok(Some(frame))
+        Ok(Some(LeftFrame::new(alloc, frame)?))
     }
 
     /// The statics that an ended `before_all` leaves.

@@ -93,7 +93,7 @@ impl<'a> Results<'a> {
     {
         match &self.entries[node as usize] {
             Entry::Tested(outcome) => Some(View::of_test(outcome)),
-            Entry::Closed(opened, closed) => Some(View::of_class(opened, closed)),
+            Entry::Closed(opening, closed) => Some(View::of_class(opening.opened(), closed)),
             Entry::Empty | Entry::Opened(_) => {
                 let opened = self.barred_by(node)?;
                 Some(View::barred(&opened.ending))
@@ -109,7 +109,7 @@ impl<'a> Results<'a> {
             (λ o. IsOpening (subject self.now.plan self.now.start node) o.now) }
     {
         match &self.entries[node as usize] {
-            Entry::Opened(opened) | Entry::Closed(opened, _) => Some(opened),
+            Entry::Opened(opening) | Entry::Closed(opening, _) => Some(opening.opened()),
             Entry::Empty | Entry::Tested(_) => None,
         }
     }

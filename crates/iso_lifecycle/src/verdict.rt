@@ -4,50 +4,45 @@ ghost use Rattle.iso_model.specs.Statements.{is_well};
 ghost use Rattle.iso_model.specs.Verdicts.{verdict};
 ghost use Rattle.iso_lifecycle.specs.Combining.{or_skipped, with_first};
 ghost use Rattle.iso_lifecycle.specs.Ends.{is_unfailed};
+ghost use Rattle.iso_lifecycle.specs.ResultViews.{verdict_of_view};
 
-use crate::endings::Endings;
-use iso_model::outcome::{Ending, Note, Verdict};
+use crate::view::ViewVerdict;
+use iso_model::outcome::{Ending, Note};
 
-/// The combined verdict, from the last ending to the first. Takes no memory.
-pub(crate) fn verdict(endings: Endings) -> Verdict
-    ensures { result ≡ verdict endings }
+/// The combined verdict, from the last ending to the first.
+pub(crate) fn verdict(endings: &[Ending]) -> ViewVerdict<'_>
+    ensures { verdict_of_view result ≡ verdict endings.now }
 {
-    let mut endings = endings.into_others();
-    let mut verdict = Verdict::Pass;
-    while let Some(ending) = endings.pop() {
-        verdict = with_first(ending, verdict);
+    let mut verdict = ViewVerdict::Pass;
+    let mut left = endings;
+    'endings: while let Some((last, before)) = left.split_last() {
+        verdict = with_first(last, verdict);
+        left = before;
     }
     verdict
 }
 
 /// The verdict with an ending before those that came to this.
-fn with_first(ending: Ending, rest: Verdict) -> Verdict
-    ensures { result ≡ with_first ending rest }
+pub(crate) fn with_first<'a>(ending: &'a Ending, rest: ViewVerdict<'a>) -> ViewVerdict<'a>
+    ensures { verdict_of_view result ≡ with_first ending.now (verdict_of_view rest.entry) }
 {
     match ending {
         Ending::Well => rest,
-        Ending::Fail(note) => replaced(rest, Verdict::Fail(note)),
-        Ending::Fault(kind, note) => replaced(rest, Verdict::Fault(kind, note)),
+        Ending::Fail(note) => ViewVerdict::Fail(note),
+        Ending::Fault(kind, note) => ViewVerdict::Fault(*kind, note),
         Ending::Assumed(note) => or_skipped(rest, note),
     }
 }
 
-/// Another verdict in place of one.
-fn replaced(rest: Verdict, by: Verdict) -> Verdict
-    ensures { result ≡ by }
-{
-    // A call drops the verdict: the variants then stand in the proof of that call alone.
-    drop(rest);
-    by
-}
-
 /// A fail or fault, or else Skipped by this note.
-fn or_skipped(verdict: Verdict, note: Note) -> Verdict
-    ensures { result ≡ or_skipped verdict note }
+fn or_skipped<'a>(verdict: ViewVerdict<'a>, note: &'a Note) -> ViewVerdict<'a>
+    ensures { verdict_of_view result ≡ or_skipped (verdict_of_view verdict.entry) note.now }
 {
     match verdict {
-        Verdict::Fail(_) | Verdict::Fault(_, _) => verdict,
-        Verdict::Pass | Verdict::Skipped(_) | Verdict::Blocked(_) => Verdict::Skipped(note),
+        ViewVerdict::Fail(_) | ViewVerdict::Fault(_, _) => verdict,
+        ViewVerdict::Pass | ViewVerdict::Skipped(_) | ViewVerdict::Blocked(_) => {
+            ViewVerdict::Skipped(note)
+        }
     }
 }
 
@@ -59,8 +54,8 @@ pub(crate) fn is_well(ending: &Ending) -> bool
 }
 
 /// Whether a test that came to this was done without a fail or fault.
-pub(crate) fn is_unfailed(verdict: &Verdict) -> bool
-    ensures { result ≡ is_unfailed verdict.now }
+pub(crate) fn is_unfailed(verdict: ViewVerdict<'_>) -> bool
+    ensures { result ≡ is_unfailed (verdict_of_view verdict.entry) }
 {
-    matches!(verdict, Verdict::Pass | Verdict::Skipped(_))
+    matches!(verdict, ViewVerdict::Pass | ViewVerdict::Skipped(_))
 }

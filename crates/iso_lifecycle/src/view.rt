@@ -1,12 +1,15 @@
 //! The result of a node, borrowed.
 ghost use Rattle.std.specs.Prelude.{◌≡◌, ◌∷◌, ◌++◌, []};
 ghost use Rattle.iso_model.specs.Verdicts.{barred_verdict, verdict};
+ghost use Rattle.iso_lifecycle.specs.Combining.{with_first};
 ghost use Rattle.iso_lifecycle.specs.ResultViews.{outcome_of_view, verdict_of_view};
 
 use crate::done::{Closed, Opened};
+use crate::kept::{KeptEnding, KeptOutcome};
+use crate::verdict::with_first;
 use iso_model::fault::FaultKind;
 use iso_model::lines::LineSlice;
-use iso_model::outcome::{Ending, Note, Outcome, Verdict};
+use iso_model::outcome::{Ending, Note};
 
 /// A verdict whose note is borrowed.
 #[derive(Clone, Copy)]
@@ -30,32 +33,21 @@ pub struct View<'a> {
 }
 
 impl<'a> ViewVerdict<'a> {
-    /// A verdict, lent.
-    fn lent(verdict: &'a Verdict) -> ViewVerdict<'a>
-        ensures { verdict_of_view result ≡ verdict.now }
-    {
-        match verdict {
-            Verdict::Pass => ViewVerdict::Pass,
-            Verdict::Fail(note) => ViewVerdict::Fail(note),
-            Verdict::Fault(kind, note) => ViewVerdict::Fault(*kind, note),
-            Verdict::Skipped(note) => ViewVerdict::Skipped(note),
-            Verdict::Blocked(note) => ViewVerdict::Blocked(note),
-        }
-    }
-
     /// The combined verdict of two endings: the first fail or fault, else the first false
     /// assumption, else Pass.
-    fn combined(first: &'a Ending, last: &'a Ending) -> ViewVerdict<'a>
+    fn combined(first: &'a KeptEnding, last: &'a KeptEnding) -> ViewVerdict<'a>
         ensures { verdict_of_view result ≡ verdict (first.now ∷ last.now ∷ []) }
     {
-        match (first, last) {
-            (Ending::Fail(note), _) => ViewVerdict::Fail(note),
-            (Ending::Fault(kind, note), _) => ViewVerdict::Fault(*kind, note),
-            (_, Ending::Fail(note)) => ViewVerdict::Fail(note),
-            (_, Ending::Fault(kind, note)) => ViewVerdict::Fault(*kind, note),
-            (Ending::Assumed(note), _) => ViewVerdict::Skipped(note),
-            (_, Ending::Assumed(note)) => ViewVerdict::Skipped(note),
-            (Ending::Well, Ending::Well) => ViewVerdict::Pass,
+        ViewVerdict::Pass.behind(last).behind(first)
+    }
+
+    /// The verdict with an ending before those that came to this.
+    fn behind(self, first: &'a KeptEnding) -> ViewVerdict<'a>
+        ensures { verdict_of_view result ≡ with_first first.now (verdict_of_view self.entry) }
+    {
+        match first.other() {
+            Some(ending) => with_first(ending, self),
+            None => self,
         }
     }
 
@@ -74,12 +66,12 @@ impl<'a> ViewVerdict<'a> {
 
 impl<'a> View<'a> {
     /// The outcome of a test.
-    pub(crate) fn of_test(outcome: &'a Outcome) -> View<'a>
+    pub(crate) fn of_test(outcome: &'a KeptOutcome) -> View<'a>
         ensures { outcome_of_view result ≡ outcome.now }
     {
         View {
-            verdict: ViewVerdict::lent(&outcome.verdict),
-            lines: outcome.output.as_slice(),
+            verdict: outcome.verdict(),
+            lines: outcome.lines(),
             more: LineSlice::empty(),
         }
     }
@@ -99,12 +91,16 @@ impl<'a> View<'a> {
     }
 
     /// The outcome of a descendant of a class whose `before_all` ended so.
-    pub(crate) fn barred(ending: &'a Ending) -> View<'a>
+    pub(crate) fn barred(ending: &'a KeptEnding) -> View<'a>
         ensures { outcome_of_view result
             ≡ record { verdict = barred_verdict ending.now; output = [] } }
     {
+        let verdict = match ending.other() {
+            Some(ending) => ViewVerdict::barred(ending),
+            None => ViewVerdict::Pass,
+        };
         View {
-            verdict: ViewVerdict::barred(ending),
+            verdict,
             lines: LineSlice::empty(),
             more: LineSlice::empty(),
         }

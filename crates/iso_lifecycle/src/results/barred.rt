@@ -7,7 +7,6 @@ ghost use Rattle.iso_lifecycle.specs.Subjects.{subject};
 
 use crate::done::Opened;
 use crate::results::Results;
-use iso_model::outcome::Ending;
 use iso_plan::laws;
 
 impl<'a> Results<'a> {
@@ -50,9 +49,10 @@ impl<'a> Results<'a> {
             (λ o. IsOpening (subject self.now.plan self.now.start node) o.now) }
     {
         let opened = self.opened(node)?;
-        match &opened.ending {
-            Ending::Well => None,
-            Ending::Fail(_) | Ending::Fault(_, _) | Ending::Assumed(_) => Some(opened),
+        if opened.ending.is_well() {
+            None
+        } else {
+            Some(opened)
         }
     }
 }

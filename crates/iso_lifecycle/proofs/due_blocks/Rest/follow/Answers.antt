@@ -6,6 +6,9 @@ use Rattle.iso_lifecycle.specs.declared.job.Job.{Job}
 use Rattle.iso_lifecycle.proofs.WorkLemmas.{no-rights}
 use Rattle.iso_lifecycle.proofs.due_blocks.Rest.follow.Goals as goal
 
+pub returns-in_err-pass_empty-clause-rights : goal.returns-in_err-pass_empty-clause-rights
+returns-in_err-pass_empty-clause-rights c = no-rights c.args.block.now c.args.self.now c.requires
+
 pub returns-in_err-passed-clause-rights : goal.returns-in_err-passed-clause-rights
 returns-in_err-passed-clause-rights c = no-rights c.loop-self.block c.args.self.now c.loop-self.invariant.none
 
