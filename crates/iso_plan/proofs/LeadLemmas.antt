@@ -301,10 +301,10 @@ pub locks-ordered : (tree : List Row) (n : ℕ) → AreOrdered (length (keys tre
 locks-ordered tree n = record { rise = locks-rise tree n; known = known_of tree n }
 
 -- the lists of a plan's groups, as contracts see them
-abbrev pub lists_in : Vec (Vec Lock Global) Global → List (List Lock)
-lists_in v = map (λ (l : Vec Lock Global). l.items) v.items
+abbrev pub lists_in : Vec (List Lock) Global → List (List Lock)
+lists_in v = v.items
 
-lists_by : (tree : List Row) (leads : List ℕ) (o : Option (Vec (Vec Lock Global) Global)) → leads ≡ column (lead tree) (length (keys tree))
+lists_by : (tree : List Row) (leads : List ℕ) (o : Option (Vec (List Lock) Global)) → leads ≡ column (lead tree) (length (keys tree))
     → MatchOption o ((k : ℕ) → k < length (keys tree) → lead tree k ≡ k) (λ v. lists_in v ≡ map (on_own leads) (all_locks tree))
     → MatchOption (option_map lists_in o) ((n : ℕ) → n < length tree → lead_locks tree n ≡ locks tree n) (λ xs. xs ≡ column (lead_locks tree) (length tree))
 lists_by tree leads None e h = λ n l. on_full (lead tree) (length (keys tree)) (locks tree n) (known_of tree n) h
@@ -320,7 +320,9 @@ groups-are tree count lists g e k h =
     let all : AreGroups (length (keys tree)) (all_locks tree) g = subst (λ (ls : List (List Lock)). AreGroups (length (keys tree)) ls g) e (subst (λ (n : ℕ). AreGroups n lists g) k h) in
     (all.leads, lists_by tree g.leads.items g.lists all.leads all.on_leads)
 
-pub some-lists : (tree : List Row) (o : Option (Vec (Vec Lock Global) Global)) (v : Vec (Vec Lock Global) Global) → o ≡ Some v
-    → MatchOption (option_map lists_in o) ((n : ℕ) → n < length tree → lead_locks tree n ≡ locks tree n) (λ xs. xs ≡ column (lead_locks tree) (length tree)) → lists_in v ≡ column (lead_locks tree) (length tree)
+pub some-lists : (tree : List Row) (o : Option (Vec (List Lock) Global)) (v : Vec (List Lock) Global) → o ≡ Some v
+    → MatchOption (option_map lists_in o) ((n : ℕ) → n < length tree → lead_locks tree n ≡ locks tree n) (λ xs. xs ≡ column (lead_locks tree) (length tree))
+    → lists_in v ≡ column (lead_locks tree) (length tree)
 some-lists tree o v e h =
-    subst (λ (p : Option (Vec (Vec Lock Global) Global)). MatchOption (option_map lists_in p) ((n : ℕ) → n < length tree → lead_locks tree n ≡ locks tree n) (λ xs. xs ≡ column (lead_locks tree) (length tree))) e h
+    subst
+    (λ (p : Option (Vec (List Lock) Global)). MatchOption (option_map lists_in p) ((n : ℕ) → n < length tree → lead_locks tree n ≡ locks tree n) (λ xs. xs ≡ column (lead_locks tree) (length tree))) e h

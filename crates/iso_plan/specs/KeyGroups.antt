@@ -1,17 +1,13 @@
 -- Groups of keys that all nodes of a plan take alike.
 --
 -- group of keys: Keys that each node takes in the same access, or none of them (`are_alike`). The
--- lowest of a group is its lead (`lead`), the locks of a node on such keys are its lead locks
--- (`lead_locks`), and a key's place in its group is how many keys of it are lower
--- (`place_in_group`).
+-- lowest of a group is its lead (`lead`), and the locks of a node on such keys are its lead locks
+-- (`lead_locks`).
 use Rattle.std.specs.Prelude.{◌≡◌, ℕ, ◌<◌, ◌-◌, List, [], ◌∷◌, MatchOption, filter, length, map, Option, Some, None, Bool, ◌&&◌, ◌==◌, cond, slice_index_or, take, true, unwrap_or}
 use Rattle.std.specs.List.{AllByRecursion, list_all}
-use Rattle.std.specs.declared.alloc.Global.{Global}
-use Rattle.std.specs.declared.vec.Vec.{Vec}
 use Rattle.iso_model.specs.declared.access.Access.{Access}
 use Rattle.iso_model.specs.declared.access.Access.TheVariants.{Read, Write}
 use Rattle.iso_plan.specs.Conflicts.{lowest}
-use Rattle.iso_plan.specs.KeptNodes.{number_among}
 use Rattle.iso_plan.specs.Locks.{locks}
 use Rattle.iso_plan.specs.Paths.{column}
 use Rattle.iso_plan.specs.Rising.{Rise}
@@ -62,10 +58,6 @@ is_lead tree key = lead tree key == key
 abbrev pub lead_locks : List Row → ℕ → List Lock
 lead_locks tree n = filter (λ l. is_lead tree l.key) (locks tree n)
 
--- how many lower keys are alike to a key
-abbrev pub place_in_group : List Row → ℕ → ℕ
-place_in_group tree key = number_among (are_alike tree key) key
-
 -- locks stand in the order of their keys, all of them below a number
 pub record AreOrdered (keys : ℕ) (ls : List Lock) : Type 0 where
   pub rise : Rise ls
@@ -97,4 +89,4 @@ on_own leads ls = filter (λ l. slice_index_or leads l.key 0 == l.key) ls
 pub record AreGroups (keys : ℕ) (lists : List (List Lock)) (g : Groups) : Type 0 where
   pub leads : g.leads.items ≡ column (lead_in lists) keys
   pub on_leads : MatchOption g.lists ((k : ℕ) → k < keys → lead_in lists k ≡ k)
-      (λ v. map (λ (l : Vec Lock Global). l.items) v.items ≡ map (on_own g.leads.items) lists)
+      (λ v. v.items ≡ map (on_own g.leads.items) lists)

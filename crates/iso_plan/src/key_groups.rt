@@ -14,7 +14,7 @@ use std::alloc::{AllocError, Global};
 #[derive(Drop)]
 pub(crate) struct Groups {
     pub leads: Vec<u32>,
-    pub lists: Option<Vec<Vec<Lock>>>,
+    pub lists: Option<Vec<SharedLocks>>,
 }
 
 /// The groups of so many keys that nodes with these locks take alike.
@@ -56,13 +56,13 @@ fn on_leads(
     alloc: Global,
     locks: &[SharedLocks],
     leads: &[u32],
-) -> Result<Vec<Vec<Lock>>, AllocError>
-    ensures { IfOk result (λ v. map (λ l. l.items) v.items
-        ≡ map (on_own leads.now) locks.now) }
+) -> Result<Vec<SharedLocks>, AllocError>
+    ensures { IfOk result (λ v. v.items ≡ map (on_own leads.now) locks.now) }
 {
-    let mut lists = Vec::with_capacity(alloc, locks.len())?;
+    let mut lists: Vec<SharedLocks> = Vec::with_capacity(alloc, locks.len())?;
     'nodes: for list in locks {
-        lists.push(on_own(alloc, list.as_slice(), leads)?)?;
+        let own = on_own(alloc, list.as_slice(), leads)?;
+        lists.push(SharedLocks::new(alloc, own)?)?;
     }
     Ok(lists)
 }
@@ -116,7 +116,8 @@ fn is_idle(locks: &[SharedLocks], n: usize) -> bool
     requires { n < length locks.now }
     ensures { result ≡ true → IsIdle locks.now n }
 {
-    if locks[n].as_slice().is_empty() {
+    let list = locks[n].as_slice();
+    if list.is_empty() {
         return true;
     }
     is_as_before(locks, n)

@@ -63,7 +63,7 @@ pub struct Plan {
     depth: usize,
     leads: Vec<u32>,
     /// None where each key is the lead of its group: then they are all locks.
-    lead_locks: Option<Vec<Vec<Lock>>>,
+    lead_locks: Option<Vec<SharedLocks>>,
 }
 
 impl Model for Plan {
@@ -85,7 +85,7 @@ impl Model for Plan {
         (map (λ c. c.items) p.children.items)
         (map heads_in p.chains.items) (map rights_in p.rights.items) p.keys.items p.numbers
         p.locking.items p.locks.items p.modes.items p.depth
-        p.leads.items (option_map (λ v. map (λ l. l.items) v.items) p.lead_locks) };
+        p.leads.items (option_map (λ v. v.items) p.lead_locks) };
 }
 
 /// The plan of scripts under settings.
@@ -313,7 +313,7 @@ impl Plan {
         ensures known { All (λ l. l.key < length (keys (tree_of self.now))) result.now }
     {
         match &self.lead_locks {
-            Some(lists) => &lists[node as usize],
+            Some(lists) => lists[node as usize].as_slice(),
             None => self.locks(node),
         }
     }

@@ -20,7 +20,6 @@ returns-then-are_own c =
 
 pub returns : goal.returns
 returns c =
-    let v = c.in_ok-leads.leads in
     let all = c.args.locks.now in
     record {
       leads = c.in_ok-leads.ensures;

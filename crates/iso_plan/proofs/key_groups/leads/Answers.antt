@@ -18,14 +18,14 @@ nodes-init c =
 
 pub split-requires-clause-few : goal.split-requires-clause-few
 split-requires-clause-few c =
-    let lists = take c.nodes.n c.args.locks.now in
+    let lists = take c.nodes.n (c.args.locks.now) in
     let size : length c.deref.result.now ≡ c.args.keys = ap length (c.deref.ensures.value ∙ c.nodes.invariant) ∙ length-column (lead_in lists) c.args.keys in
     let few : c.args.keys ≤ 256 = c.requires.few in
     omega arith
 
 pub split-requires-clause-leads : goal.split-requires-clause-leads
 split-requires-clause-leads c = λ k h.
-    let lists = take c.nodes.n c.args.locks.now in
+    let lists = take c.nodes.n (c.args.locks.now) in
     let same = c.deref.ensures.value ∙ c.nodes.invariant in
     let size : length c.deref.result.now ≡ c.args.keys = ap length same ∙ length-column (lead_in lists) c.args.keys in
     let le = (lead-is lists k).le in
@@ -55,7 +55,7 @@ nodes-preserved c =
           let same = w.deref.ensures.value ∙ c.nodes.invariant in
           let size : length w.deref.result.now ≡ keys = ap length same ∙ length-column (lead_in (take n lists)) keys in
           let this : w.as_slice.result.now ≡ get_or lists n [] =
-          w.as_slice.ensures ∙ w.index-locks-n.is ∙ get_or_default lists n w.index-locks-n.result [] (omega arith) in
+          w.as_slice.ensures ∙ w.index-locks-n.is ∙ get_or_default all n w.index-locks-n.result [] (omega arith) in
           ap items w.leads-is ∙ w.in_ok-leads-2.ensures
           ∙ ap₂ (λ (ls : List Lock) (k : ℕ). column (split_lead w.deref.result.now ls) k) this size
           ∙ split-next w.deref.result.now lists n keys within same
@@ -72,7 +72,7 @@ returns-then-are_own c =
     let same = c.deref.ensures.value ∙ c.nodes.invariant in
     let size : length c.deref.result.now ≡ keys = ap length same ∙ length-column (lead_in (take n lists)) keys in
     let this : c.as_slice.result.now ≡ get_or lists n [] =
-    c.as_slice.ensures ∙ c.index-locks-n.is ∙ get_or_default lists n c.index-locks-n.result [] (omega arith) in
+    c.as_slice.ensures ∙ c.index-locks-n.is ∙ get_or_default all n c.index-locks-n.result [] (omega arith) in
     let is : c.in_ok-leads-2.leads.items ≡ column (lead_in (take (n + 1) lists)) keys =
     c.in_ok-leads-2.ensures ∙ ap₂ (λ (ls : List Lock) (k : ℕ). column (split_lead c.deref.result.now ls) k) this size ∙ split-next c.deref.result.now lists n keys within same in
     let now : c.deref-then-not-is_idle.result.now ≡ c.in_ok-leads-2.leads.items = c.deref-then-not-is_idle.ensures.value in

@@ -54,8 +54,8 @@ group_keys-requires-clause-ordered c = λ n h.
     c.deref-4.ensures.value ∙ keyed.locked.locks_are ∙ ap (λ (rs : List Row). column (locks (map row_of rs)) (length rs)) c.deref.ensures.value in
     let within : n < length v.items =
     subst (λ (k : ℕ). n < k) (ap length taken ∙ length-column (locks tree) (length v.items)) h in
-    let this : get_or (c.deref-4.result.now) n [] ≡ locks tree n = column-read (locks tree) (c.deref-4.result.now) (length v.items) n [] taken within in
-    subst (λ (k : ℕ). AreOrdered k (get_or (c.deref-4.result.now) n [])) (sym table) (subst (AreOrdered (length (keys tree))) (sym this) (locks-ordered tree n))
+    let this : get_or c.deref-4.result.now n [] ≡ locks tree n = column-read (locks tree) c.deref-4.result.now (length v.items) n [] taken within in
+    subst (λ (k : ℕ). AreOrdered k (get_or c.deref-4.result.now n [])) (sym table) (subst (AreOrdered (length (keys tree))) (sym this) (locks-ordered tree n))
 
 pub invariant_of-result : goal.invariant_of-result
 invariant_of-result c =
@@ -69,7 +69,7 @@ invariant_of-result c =
     c.deref-4.ensures.value ∙ keyed.locked.locks_are ∙ ap (λ (rs : List Row). column (locks (map row_of rs)) (length rs)) c.deref.ensures.value in
     let size : c.len.result ≡ length c.in_ok-keyed.keyed.keys.items = omega (arith, c.len.ensures, c.in_ok-keyed.keyed.keys.ok.0) in
     let table : c.len.result ≡ length (keys tree) = size ∙ ap length (keyed.keys_are ∙ ap (λ (rs : List Row). keys (map row_of rs)) c.deref.ensures.value) in
-    let groups = groups-are tree c.len.result (c.deref-4.result.now) c.in_ok-groups.groups (taken-are v.items (c.deref-4.result.now) taken) table c.in_ok-groups.ensures in
+    let groups = groups-are tree c.len.result c.deref-4.result.now c.in_ok-groups.groups (taken-are v.items c.deref-4.result.now taken) table c.in_ok-groups.ensures in
     record {
       is_tree = c.requires.tree;
       in_order = c.requires.order;
