@@ -1,8 +1,8 @@
 -- Histories: the value that a resource has now, and those that it had before.
 --
 -- history of a value: The value now and each that it had before a change which wasn't taken back;
--- after a change, its start, an earlier history.
-use Rattle.std.specs.Prelude.{◌≡◌, List, [], ◌∷◌, ◌++◌, refl}
+-- after a change, its start, an earlier history, whether it is unchanged.
+use Rattle.std.specs.Prelude.{◌≡◌, List, [], ◌∷◌, ◌++◌, ◌==◌, Bool, length, refl}
 use Rattle.std.specs.Coded.{Coded, code_by, coded×, coded_list}
 use Rattle.iso_model.specs.contracts.resource.Resource.{the_row}
 use Rattle.iso_model.specs.Resources.{changed}
@@ -44,6 +44,10 @@ oldest v (w ∷ ws) = oldest w ws
 -- the value at the start
 abbrev pub start_of : History → Resource
 start_of h = oldest h.now h.past
+
+-- whether each change was taken back, or there was none
+abbrev pub is_unchanged : History → Bool
+is_unchanged h = length h.past == 0
 
 -- the second history came from the first by further changes
 pub record IsEarlier (mark h : History) : Type 0 where

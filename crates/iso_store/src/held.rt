@@ -1,7 +1,7 @@
 //! A value, and the marks to which it can go back.
 ghost use Rattle.std.specs.Prelude.{◌≡◌, IfOk, OnOk, OnErr, [], length, option_copied};
 ghost use Rattle.iso_model.specs.Touch.{answer};
-ghost use Rattle.iso_store.specs.Histories.{History, after, start_of, IsEarlier};
+ghost use Rattle.iso_store.specs.Histories.{History, after, is_unchanged, start_of, IsEarlier};
 
 use crate::layers::Layers;
 use crate::value::Value;
@@ -111,6 +111,21 @@ impl Held {
         } = mark;
         self.value.layers = layers;
         self.past.truncate(changes);
+    }
+
+    /// Whether each change was taken back, or there was none.
+    pub fn is_unchanged(&self) -> bool
+        ensures { result ≡ is_unchanged self.now }
+    {
+        self.past.is_empty()
+    }
+
+    /// Takes back all changes.
+    pub fn restart(&mut self)
+        ensures { self.new ≡ record { now = start_of self.old; past = [] } }
+    {
+        self.value.layers = Layers::new(self.alloc);
+        self.past.clear();
     }
 
     /// The text that is asked for, or `None` where the property is absent or the file missing, or
