@@ -2,12 +2,15 @@ pub mod CountLemmas
 pub mod FindLemmas
 pub mod FlatLemmas
 pub mod KeyLemmas
+pub mod KeySetLemmas
+pub mod KeptLemmas
 pub mod LawLemmas
 pub mod LentLemmas
 pub mod MoveLemmas
 pub mod NumberLemmas
 pub mod OwnerLemmas
 pub mod Sharing
+pub mod SlotLemmas
 pub mod StillLemmas
 pub mod TouchLemmas
 pub mod UndoLemmas

@@ -4,6 +4,7 @@ use denote.Param.SendFields.{as_row_send, declared_send}
 use denote.Ref.{NamedLft}
 use Rattle.std.proofs.Crossing.{crosses}
 use Rattle.iso_lifecycle.proofs.Sharing.{frame_sent}
+use Rattle.iso_locks.proofs.key_set.KeySet.TheSendSync as key_set
 use Rattle.iso_locks.proofs.starting.Starting.TheSendSync as starting
 use Rattle.iso_locks.specs.contracts.counts.Counts as counts
 use Rattle.iso_locks.specs.contracts.counts.Counts.TheInside as counts_inside
@@ -13,6 +14,8 @@ use Rattle.iso_locks.specs.contracts.lockers.Lockers as lockers
 use Rattle.iso_locks.specs.contracts.lockers.Lockers.TheInside as lockers_inside
 use Rattle.iso_locks.specs.contracts.slots.Slots as slots
 use Rattle.iso_locks.specs.contracts.slots.Slots.TheInside as slots_inside
+use Rattle.iso_locks.specs.contracts.starting.Starts as starts
+use Rattle.iso_locks.specs.contracts.starting.Starts.TheInside as starts_inside
 use Rattle.iso_locks.specs.contracts.tray.Tray as tray
 use Rattle.iso_locks.specs.contracts.tray.Tray.TheInside as tray_inside
 use Rattle.iso_locks.specs.contracts.vault.Vault as vault
@@ -21,15 +24,20 @@ use Rattle.iso_plan.proofs.Sharing.{held_sent, option_sent, plan_shared}
 use Rattle.iso_settings.proofs.world.World.TheSendSync as world
 use Rattle.iso_store.proofs.Sharing as stored
 
-ruleset values = (stored.held_sent, option_sent, as_row_send, crosses, sendable)
+ruleset values = (stored.held_sent, key_set.the_send, option_sent, as_row_send, crosses, sendable)
 
 slots_sent : IsSend slots.the_row
-slots_sent = search (declared_send slots_inside.the_type (search values, tt), sendable)
+slots_sent = search (declared_send slots_inside.the_type (search values, (search values, (search values, tt))), sendable)
+
+ruleset started = (starting.the_send, starting.the_sync, as_row_send, crosses, sendable)
+
+starts_sent : IsSend starts.the_row
+starts_sent = search (declared_send starts_inside.the_type (search started, tt), sendable)
 
 counts_sent : IsSend counts.the_row
 counts_sent = search (declared_send counts_inside.the_type (search values, (search values, tt)), sendable)
 
-ruleset held = (plan_shared, held_sent, counts_sent, world.the_sync, slots_sent, starting.the_send, frame_sent, as_row_send, crosses, sendable)
+ruleset held = (plan_shared, held_sent, counts_sent, world.the_sync, slots_sent, starts_sent, frame_sent, as_row_send, crosses, sendable)
 
 lockers_sent : (a : NamedLft) → IsSend (lockers.the_row a)
 lockers_sent a = search (declared_send (lockers_inside.the_type a) (search held, (search held, tt)), sendable)

@@ -1,6 +1,8 @@
 pub mod Clashes
 pub mod Examples
 pub mod Flats
+pub mod Kept
+pub mod KeySets
 pub mod Lent
 pub mod Lockers
 pub mod Moves

@@ -17,6 +17,7 @@ use Rattle.std.specs.Option.{option_or}
 use Rattle.std.specs.Coded.{Coded, code_by, coded×, coded_list, coded_option, coded_bool, coded_ℕ}
 use Rattle.iso_model.specs.Resources.{Resources}
 use Rattle.iso_model.specs.Rights.{access_in, is_writable}
+use Rattle.iso_model.specs.contracts.resource.Resource as resource
 use Rattle.iso_model.specs.declared.access.Access.{Access}
 use Rattle.iso_model.specs.declared.access.Access.TheVariants.{Read, Write}
 use Rattle.iso_model.specs.declared.resource.Resource.{Resource}
@@ -95,6 +96,12 @@ frames_on v n = map (subject v.plan v.start) (reverse (path (tree_of v.plan) n))
 -- a key with the value that it starts with
 abbrev pub start_at : Start → List ℕ → Starting
 start_at world k = record { key = k; value = starting_value_in world k }
+
+-- a key with a value is stored as the two
+abbrev pub starting_code : Coded Starting
+starting_code =
+    code_by (List ℕ × Resource) (coded× (coded_list coded_ℕ) resource.the_row.coded)
+    (λ s. (s.key, s.value)) (λ p. record { key = p.0; value = p.1 }) (λ _. refl)
 
 -- the key with a number
 abbrev pub key_at : List Row → ℕ → List ℕ

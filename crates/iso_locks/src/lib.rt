@@ -3,6 +3,8 @@
 
 mod counts;
 pub mod examples;
+mod kept;
+mod key_set;
 pub mod laws;
 mod lent;
 mod lockers;

@@ -1,10 +1,10 @@
 //! Slots for values that must be spent.
-ghost use Rattle.std.specs.Prelude.{◌≡◌, ◌<◌, ◌++◌, ◌∷◌, [], ℕ, IfOk, OnOk, OnErr, None, Some, length, option_copied, option_map, replicate, slice_set};
-ghost use Rattle.iso_locks.specs.Slots.{HasLater, slot};
+ghost use Rattle.std.specs.Prelude.{◌≡◌, ◌≤◌, ◌<◌, ◌++◌, ◌∷◌, [], ℕ, IfOk, MatchOption, OnOk, OnErr, None, Some, false, length, option_copied, option_map, replicate, slice_set, true};
+ghost use Rattle.iso_locks.specs.KeySets.{holds};
+ghost use Rattle.iso_locks.specs.Slots.{HasLater, has_changed, has_unchanged, restarted, slot};
 ghost use Rattle.iso_store.specs.Histories.{History, after};
-ghost use Rattle.iso_plan.specs.Paths.{column};
-ghost use Rattle.std.specs.Option.{option_or};
 
+use crate::key_set::{KeySet, NUMBERS};
 use iso_model::resource::Change;
 use iso_store::held::{Held, Savepoint};
 use std::alloc::{AllocError, Global};
@@ -12,13 +12,19 @@ use std::marker::Model;
 use std::mem;
 
 /// Slots by number, each with a value or without. They spend what is in them when they are dropped.
+/// Which values were changed they know without a look at the others.
 pub(crate) struct Slots {
     items: Vec<Option<Held>>,
+    /// Where a value is unchanged.
+    unchanged: KeySet,
+    /// Where one was changed.
+    changed: KeySet,
 }
 
 impl Model for Slots {
     ghost use Rattle.std.specs.Prelude.{List, Option};
     ghost use Rattle.std.specs.Coded.{coded_list, coded_option};
+    ghost use Rattle.iso_locks.specs.Slots.{AreNoted};
     ghost use Rattle.iso_store.specs.Histories.{History, history_code};
 
     ghost Value = { List (Option History) };
@@ -26,11 +32,17 @@ impl Model for Slots {
     ghost coded = { coded_list (coded_option history_code) };
 
     ghost view = { λ s. s.items.items };
+
+    ghost invariant = { λ s. AreNoted s.unchanged s.changed s.items.items };
 }
 
 impl Drop for Slots {
     fn drop(self) {
-        let Slots { items } = self;
+        let Slots {
+            items,
+            unchanged: _,
+            changed: _,
+        } = self;
         discard_all(items);
     }
 }
@@ -51,6 +63,26 @@ fn discard(item: Option<Held>) {
     }
 }
 
+/// Whether there is a value, and it is unchanged.
+fn is_unchanged(item: Option<&Held>) -> bool
+    ensures { result ≡ has_unchanged (option_copied item.entry) }
+{
+    match item {
+        Some(held) => held.is_unchanged(),
+        None => false,
+    }
+}
+
+/// Whether there is a value, and it was changed.
+fn is_changed(item: Option<&Held>) -> bool
+    ensures { result ≡ has_changed (option_copied item.entry) }
+{
+    match item {
+        Some(held) => !held.is_unchanged(),
+        None => false,
+    }
+}
+
 impl Slots {
     /// No slots.
     pub fn new(alloc: Global) -> Slots
@@ -58,6 +90,8 @@ impl Slots {
     {
         Slots {
             items: Vec::new(alloc),
+            unchanged: KeySet::new(),
+            changed: KeySet::new(),
         }
     }
 
@@ -72,13 +106,25 @@ impl Slots {
         Ok(slots)
     }
 
-    /// A slot more. Once out of memory there is none more, and the value that it would have is dropped.
+    /// A slot more, if there are fewer than a plan may have keys. Once out of memory there is none
+    /// more, and the value that it would have is dropped.
     pub fn add(&mut self, item: Option<Held>) -> Result<(), AllocError>
         ensures added { OnOk result (self.new ≡ self.old ++ item ∷ []) }
         ensures same { OnErr result (self.new ≡ self.old) }
     {
+        let number = self.items.len();
+        if number >= NUMBERS {
+            discard(item);
+            return Err(AllocError);
+        }
+        let unchanged = is_unchanged(item.as_ref());
+        let changed = is_changed(item.as_ref());
         match self.items.push(item) {
-            Ok(()) => Ok(()),
+            Ok(()) => {
+                self.unchanged.set(number, unchanged);
+                self.changed.set(number, changed);
+                Ok(())
+            }
             Err(refused) => {
                 discard(refused.value);
                 Err(AllocError)
@@ -101,11 +147,42 @@ impl Slots {
         self.items[number].as_ref()
     }
 
+    /// Where a value is unchanged.
+    pub fn unchanged(&self) -> KeySet
+        ensures each { (i : ℕ) → holds result i ≡ has_unchanged (slot self.now i) }
+        ensures few { length self.now ≤ 256 }
+    {
+        self.unchanged
+    }
+
+    /// Whether there is no value.
+    pub fn has_none(&self) -> bool
+        ensures { result ≡ true → (i : ℕ) → slot self.now i ≡ None }
+    {
+        match (self.unchanged.next(0), self.changed.next(0)) {
+            (None, None) => true,
+            _ => false,
+        }
+    }
+
+    /// The lowest number from one on where a value was changed.
+    pub fn next_changed(&self, from: usize) -> Option<usize>
+        ensures few { length self.now ≤ 256 }
+        ensures next { MatchOption result
+            ((i : ℕ) → from ≤ i → has_changed (slot self.now i) ≡ false)
+            (λ n. (from ≤ n) × (n < length self.now) × (has_changed (slot self.now n) ≡ true)
+            × ((i : ℕ) → from ≤ i → i < n → has_changed (slot self.now i) ≡ false)) }
+    {
+        self.changed.next(from)
+    }
+
     /// Puts a value into a slot. One that was there is spent.
     pub fn put(&mut self, number: usize, item: Option<Held>)
         requires { number < length self.old }
         ensures { self.new ≡ slice_set self.old number item }
     {
+        self.unchanged.set(number, is_unchanged(item.as_ref()));
+        self.changed.set(number, is_changed(item.as_ref()));
         let before = mem::replace(&mut self.items[number], item);
         discard(before);
     }
@@ -116,6 +193,8 @@ impl Slots {
         ensures value { result ≡ slot self.old number }
         ensures rest { self.new ≡ slice_set self.old number None }
     {
+        self.unchanged.set(number, false);
+        self.changed.set(number, false);
         self.items[number].take()
     }
 
@@ -127,9 +206,12 @@ impl Slots {
         ensures err { OnErr result (self.new ≡ self.old) }
     {
         match &mut self.items[number] {
-            Some(held) => held.apply(change),
-            None => Ok(()),
+            Some(held) => held.apply(change)?,
+            None => return Ok(()),
         }
+        self.unchanged.set(number, false);
+        self.changed.set(number, true);
+        Ok(())
     }
 
     /// Lets the value in a slot go back to its mark. Takes no memory.
@@ -141,20 +223,21 @@ impl Slots {
         if let Some(held) = &mut self.items[number] {
             held.undo_to(mark);
         }
+        let unchanged = is_unchanged(self.items[number].as_ref());
+        self.unchanged.set(number, unchanged);
+        self.changed.set(number, !unchanged);
     }
 
-    /// Lets each value that has a mark go back to it. Takes no memory.
-    pub fn undo_all(&mut self, mut marks: Vec<Option<Savepoint>>)
-        requires fits { length marks.items ≡ length self.old }
-        requires later { (i : ℕ) (h : History) → slot marks.items i ≡ Some h
-            → HasLater self.old i h }
-        ensures { self.new ≡ column (λ i. option_or (slot marks.items i) (slot self.old i))
-            (length self.old) }
+    /// Lets the value in a slot go back to its start. Takes no memory.
+    pub fn restart(&mut self, number: usize)
+        requires { number < length self.old }
+        ensures { self.new ≡ slice_set self.old number (restarted (slot self.old number)) }
     {
-        'marks: while let Some(mark) = marks.pop() {
-            if let Some(mark) = mark {
-                self.undo_to(marks.len(), mark);
-            }
-        }
+        let Some(held) = &mut self.items[number] else {
+            return;
+        };
+        held.restart();
+        self.unchanged.set(number, true);
+        self.changed.set(number, false);
     }
 }

@@ -1,5 +1,5 @@
 //! The keys of a plan with their starting values.
-ghost use Rattle.std.specs.Prelude.{◌≡◌, IfOk, IfSome, Bool, Option, length, map, option_copied, slice_index_or};
+ghost use Rattle.std.specs.Prelude.{◌≡◌, ◌<◌, IfOk, length, map, option_copied, slice_index_or};
 ghost use Rattle.std.specs.Arc.{arc_value};
 ghost use Rattle.iso_locks.specs.Trays.{start_at};
 ghost use Rattle.iso_model.specs.Touch.{answer};
@@ -57,14 +57,49 @@ pub(crate) struct Starting {
     pub value: Shared,
 }
 
+/// Keys with their starting values, by key number, which a tray and its marks share.
+#[derive(Drop)]
+pub(crate) struct Starts {
+    all: Arc<Vec<Starting>>,
+}
+
+impl Model for Starts {
+    ghost use Rattle.std.specs.Prelude.{List};
+    ghost use Rattle.std.specs.Arc.{arc_value};
+    ghost use Rattle.std.specs.Coded.{coded_list};
+    ghost use Rattle.iso_locks.specs.Trays.{starting_code};
+    ghost use Rattle.iso_locks.specs.declared.starting.Starting.{Starting};
+
+    ghost Value = { List Starting };
+
+    ghost coded = { coded_list starting_code };
+
+    ghost view = { λ s. (arc_value s.all).items };
+}
+
+impl Starts {
+    /// The key with a number, and its starting value.
+    pub fn get(&self, number: usize) -> &Starting
+        requires { number < length self.now }
+        ensures { result.now ≡ slice_index_or self.now number result.now }
+    {
+        &self.all[number]
+    }
+
+    /// The same, which both share. Takes no memory.
+    pub fn share(&self) -> Result<Starts, AllocError>
+        ensures { IfOk result (λ s. s ≡ self.now) }
+    {
+        Ok(Starts {
+            all: self.all.clone()?,
+        })
+    }
+}
+
 /// All keys of a plan with their starting values, by key number. Copies none of the values that the
 /// world names.
-pub(crate) fn starts_of(
-    alloc: Global,
-    plan: &Plan,
-    world: &World,
-) -> Result<Vec<Starting>, AllocError>
-    ensures { IfOk result (λ v. v.items ≡ map (start_at world.now) (keys (tree_of plan.now))) }
+pub(crate) fn starts_of(alloc: Global, plan: &Plan, world: &World) -> Result<Starts, AllocError>
+    ensures { IfOk result (λ v. v ≡ map (start_at world.now) (keys (tree_of plan.now))) }
 {
     let mut starts = Vec::new(alloc);
     'keys: for number in 0..plan.key_count() {
@@ -72,5 +107,7 @@ pub(crate) fn starts_of(
         let value = Shared::new(world.share(alloc, &key)?);
         starts.push(Starting { key, value })?;
     }
-    Ok(starts)
+    Ok(Starts {
+        all: Arc::new(alloc, starts)?,
+    })
 }

@@ -1,12 +1,14 @@
 //! One worker's values.
-ghost use Rattle.std.specs.Prelude.{◌≡◌, ◌<◌, ◌++◌, ◌∷◌, [], ℕ, None, IfOk, OnErr, OnOk, cond, false, is_some, length, map, not, option_copied, replicate, true};
+ghost use Rattle.std.specs.Prelude.{◌≡◌, ◌<◌, ◌++◌, ◌∷◌, [], ℕ, None, Some, IfOk, List, OnErr, OnOk, cond, false, is_some, length, not, replicate, true};
+ghost use Rattle.iso_store.specs.Histories.{History};
 ghost use Rattle.iso_locks.specs.Clashes.{clash};
 ghost use Rattle.iso_locks.specs.Owners.{AreOwned, CanHold};
-ghost use Rattle.iso_locks.specs.Slots.{slot};
+ghost use Rattle.iso_locks.specs.Kept.{AreOf, is_kept, kept_by};
+ghost use Rattle.iso_locks.specs.Slots.{HasLater, has_changed, has_unchanged, slot};
 ghost use Rattle.iso_locks.specs.Flats.{IsFlat, flat};
 ghost use Rattle.iso_lifecycle.specs.ResultViews.{AreOpened};
 ghost use Rattle.iso_lifecycle.specs.Subjects.{started};
-ghost use Rattle.iso_locks.specs.Trays.{CanUndo, empty_tray, frames_on, is_lent, kept_at, marked, undone};
+ghost use Rattle.iso_locks.specs.Trays.{CanUndo, empty_tray, frames_on, is_lent, marked, restored, undone};
 ghost use Rattle.iso_model.specs.Rights.{access_in, is_writable};
 ghost use Rattle.iso_locks.specs.Moves.{is_written, moved_away, moved_here};
 ghost use Rattle.iso_locks.specs.Vaults.{giving_back, receiving};
@@ -14,18 +16,19 @@ ghost use Rattle.iso_plan.specs.HeldNodes.{any_held};
 ghost use Rattle.iso_plan.specs.KeyTable.{keys};
 ghost use Rattle.iso_plan.specs.Locks.{locks};
 ghost use Rattle.iso_plan.specs.NodeChains.{depth};
-ghost use Rattle.iso_plan.specs.Paths.{column, is_test, path, row_at};
+ghost use Rattle.iso_plan.specs.Paths.{is_test, path, row_at};
 ghost use Rattle.iso_plan.specs.RowView.{tree_of};
 
+use crate::kept::{KeptMark, kept};
+use crate::key_set::KeySet;
 use crate::lent::LentNodes;
 use crate::moves::move_values;
 use crate::slots::Slots;
-use crate::starting::{Starting, starts_of};
+use crate::starting::{Starts, starts_of};
 use crate::vault::values;
 use iso_lifecycle::frame::Frame;
 use iso_lifecycle::results::Results;
 use iso_model::access::Access;
-use iso_model::key::Key;
 use iso_model::resource::{Ask, Change};
 use iso_model::resource_key::ResourceKey;
 use iso_model::rights::Rights;
@@ -34,10 +37,10 @@ use iso_plan::laws;
 use iso_plan::lock::Lock;
 use iso_plan::plan::Plan;
 use iso_settings::world::World;
-use iso_store::held::{self, Held};
 use std::alloc::{AllocError, Global};
 use std::marker::Model;
 use std::mem;
+use std::snapshot::Snapshot;
 
 /// What one worker holds of the resources: the values that nodes lent to it may change, and a share
 /// of each starting value, to be looked at where such a node holds the key for READ. All trays of a
@@ -54,7 +57,7 @@ pub struct Tray<'a> {
     lent: LentNodes<'a>,
     values: Slots,
     /// The keys with their starting values, by key number.
-    starts: Vec<Starting>,
+    starts: Starts,
     frames: Vec<Frame>,
     /// Where frames are gathered before they are handed.
     spare: Vec<Frame>,
@@ -80,7 +83,7 @@ impl<'a> Model for Tray<'a> {
       frames = t.frames.items;
     } };
 
-    ghost invariant = { λ t. IsTray t.plan.now t.world.now t.flat t.lent t.values t.starts.items
+    ghost invariant = { λ t. IsTray t.plan.now t.world.now t.flat t.lent t.values t.starts
         (vec_capacity t.frames) (vec_capacity t.spare) t.spare.items };
 }
 
@@ -89,33 +92,102 @@ impl<'a> Model for Tray<'a> {
 #[derive(Drop)]
 pub struct Savepoint {
     node: u32,
-    values: Vec<Option<held::Savepoint>>,
+    /// Which of the values may be changed, by their keys.
+    rights: Rights,
+    starts: Starts,
+    /// Where a value was unchanged, whether it may be changed or not.
+    unchanged: KeySet,
+    /// Of those that were changed the values that may be changed.
+    changed: Vec<KeptMark>,
+    /// All values as they stood. Contracts alone see them: they have no size.
+    then: Snapshot<Slots>,
 }
 
 impl Model for Savepoint {
+    ghost use Rattle.iso_locks.specs.Kept.{KeepsMark, kept_by};
     ghost use Rattle.iso_locks.specs.Trays.{SavepointView, savepoint_code};
 
     ghost Value = { SavepointView };
 
     ghost coded = { savepoint_code };
 
-    ghost view = { λ m. record { node = m.node; values = m.values.items } };
+    ghost view = { λ m. record {
+      node = m.node;
+      values = kept_by m.rights m.starts m.then.value;
+    } };
+
+    ghost invariant = { λ m. KeepsMark m.rights m.starts m.unchanged m.changed.items
+        m.then.value };
 }
 
 impl Savepoint {
-    /// These values of a node, by key number.
-    fn new(node: u32, values: Vec<Option<held::Savepoint>>) -> Savepoint
-        ensures { result ≡ record { node = node; values = values.items } }
+    /// What a node's rights let it change of values. Where none is there it takes no memory.
+    fn of(
+        alloc: Global,
+        node: u32,
+        rights: &Rights,
+        starts: Starts,
+        values: &Slots,
+    ) -> Result<Savepoint, AllocError>
+        requires { length starts ≡ length values.now }
+        ensures { IfOk result (λ m. m
+            ≡ record { node = node; values = kept_by rights.now starts values.now }) }
     {
-        Savepoint { node, values }
+        let rights = share_for(alloc, rights, values)?;
+        let changed = kept(alloc, &rights, &starts, values)?;
+        Ok(Savepoint {
+            node,
+            rights,
+            starts,
+            unchanged: values.unchanged(),
+            changed,
+            then: Snapshot::of(values),
+        })
     }
 
-    /// The values, by key number. Takes no memory.
-    fn into_values(self) -> Vec<Option<held::Savepoint>>
-        ensures { result.items ≡ self.values }
+    /// Whether a value was kept, and was unchanged.
+    fn keeps_unchanged(&self, number: usize) -> bool
+        requires { number < length self.now.values }
+        ensures { result ≡ has_unchanged (slot self.now.values number) }
     {
-        self.values
+        if self.unchanged.has(number) {
+            is_write(self.rights.access(&self.starts.get(number).key))
+        } else {
+            false
+        }
     }
+
+    /// The values that were kept and were changed. Takes no memory.
+    fn into_changed(self) -> Vec<KeptMark>
+        ensures marks { AreOf self.values result.items }
+        ensures all { (i : ℕ) → has_changed (slot self.values i) ≡ true
+            → is_kept result.items i ≡ true }
+    {
+        self.changed
+    }
+}
+
+/// Whether an access lets a value be changed.
+fn is_write(access: Option<Access>) -> bool
+    ensures { result ≡ is_writable access }
+{
+    match access {
+        Some(Access::Write) => true,
+        Some(Access::Read) | None => false,
+    }
+}
+
+/// Rights that let the same of these values be changed. Where there is no value they take no
+/// memory.
+fn share_for(alloc: Global, rights: &Rights, values: &Slots) -> Result<Rights, AllocError>
+    ensures { IfOk result (λ r. (i : ℕ) (k : List ℕ)
+        → cond (is_writable (access_in r k)) (slot values.now i) None
+        ≡ cond (is_writable (access_in rights.now k)) (slot values.now i) None) }
+{
+    if values.has_none() {
+        return Ok(Rights::new(alloc));
+    }
+    rights.within(alloc, &[])
 }
 
 impl<'a> Tray<'a> {
@@ -250,14 +322,15 @@ impl<'a> Tray<'a> {
         self.frames.clear();
     }
 
-    /// Keeps the values that a node's rights let it change, as they stand now.
+    /// Keeps the values that a node's rights let it change, as they stand now. It costs what was
+    /// changed of them, however many there are.
     pub fn mark(&self, alloc: Global, node: u32) -> Result<Savepoint, AllocError>
         requires { node < length self.now.plan.rows }
         ensures { IfOk result (λ m. m ≡ marked self.now node) }
     {
         let rights = self.plan.rights(node);
-        let values = kept(alloc, rights, &self.starts, &self.values)?;
-        Ok(Savepoint::new(node, values))
+        let starts = self.starts.share()?;
+        Savepoint::of(alloc, node, rights, starts, &self.values)
     }
 
     /// Lets the values that were kept stand as they stood then, and leaves all others. The tray has
@@ -266,7 +339,7 @@ impl<'a> Tray<'a> {
         requires { CanUndo mark self.old }
         ensures { self.new ≡ undone mark self.old }
     {
-        self.values.undo_all(mark.into_values());
+        go_back(&mut self.values, mark);
     }
 
     /// What a tray keeps of its values and the nodes that are lent to it.
@@ -330,7 +403,7 @@ impl<'a> Touch for Tray<'a> {
         match self.plan.key_number(key) {
             Some(number) => match self.values.get(number) {
                 Some(held) => held.look(ask),
-                None => self.starts[number].value.look(ask),
+                None => self.starts.get(number).value.look(ask),
             },
             None => None,
         }
@@ -350,40 +423,48 @@ impl<'a> Touch for Tray<'a> {
     ghost same_writes = { onward-writes };
 }
 
-/// The values that rights let be changed, as they stand now, by key number.
-fn kept(
-    alloc: Global,
-    rights: &Rights,
-    starts: &[Starting],
-    values: &Slots,
-) -> Result<Vec<Option<held::Savepoint>>, AllocError>
-    requires { length starts.now ≡ length values.now }
-    ensures { IfOk result (λ v. v.items ≡ column
-        (kept_at rights.now (map (λ s. s.key) starts.now) values.now) (length values.now)) }
+/// Lets values go back to a mark of them. Takes no memory.
+fn go_back(values: &mut Slots, mark: Savepoint)
+    requires fits { length mark.values ≡ length values.old }
+    requires later { (i : ℕ) (h : History) → slot mark.values i ≡ Some h
+        → HasLater values.old i h }
+    ensures { values.new ≡ restored mark.values values.old }
 {
-    let mut marks = Vec::with_capacity(alloc, values.len())?;
-    'keys: for number in 0..values.len() {
-        let mark = kept_at(rights, &starts[number].key, values.get(number))?;
-        marks.push(mark)?;
-    }
-    Ok(marks)
+    undo_unchanged(values, &mark);
+    undo_changed(values, mark);
 }
 
-/// A value that rights let be changed, as it stands now. Where there is none, the rights aren't
-/// asked.
-fn kept_at(
-    rights: &Rights,
-    key: &Key,
-    value: Option<&Held>,
-) -> Result<Option<held::Savepoint>, AllocError>
-    ensures { IfOk result (λ m. m ≡ cond (is_writable (access_in rights.now key.now))
-        (option_copied value.entry) None) }
+/// Lets those values go back that were unchanged at a mark.
+fn undo_unchanged(values: &mut Slots, mark: &Savepoint)
+    requires fits { length mark.now.values ≡ length values.old }
+    requires later { (i : ℕ) (h : History) → slot mark.now.values i ≡ Some h
+        → HasLater values.old i h }
+    ensures fits { length values.new ≡ length values.old }
+    ensures back { (i : ℕ) → has_unchanged (slot mark.now.values i) ≡ true
+        → slot values.new i ≡ slot mark.now.values i }
+    ensures others { (i : ℕ) → has_unchanged (slot mark.now.values i) ≡ false
+        → slot values.new i ≡ slot values.old i }
 {
-    let Some(held) = value else {
-        return Ok(None);
-    };
-    match rights.access(key) {
-        Some(Access::Write) => Ok(Some(held.mark()?)),
-        _ => Ok(None),
+    let mut at = 0;
+    'changed: while let Some(number) = values.next_changed(at) {
+        if mark.keeps_unchanged(number) {
+            values.restart(number);
+        }
+        at = number + 1;
+    }
+}
+
+/// Lets those values go back that were changed at a mark.
+fn undo_changed(values: &mut Slots, mark: Savepoint)
+    requires fits { length mark.values ≡ length values.old }
+    requires later { (i : ℕ) (h : History) → slot mark.values i ≡ Some h
+        → HasLater values.old i h }
+    requires back { (i : ℕ) → has_unchanged (slot mark.values i) ≡ true
+        → slot values.old i ≡ slot mark.values i }
+    ensures { values.new ≡ restored mark.values values.old }
+{
+    let mut marks = mark.into_changed();
+    'marks: while let Some(kept) = marks.pop() {
+        values.undo_to(kept.number, kept.mark);
     }
 }

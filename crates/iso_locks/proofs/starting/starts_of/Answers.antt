@@ -1,5 +1,7 @@
 use Rattle.std.proofs.Common.{◌≡◌, [], ◌∷◌, ◌++◌, List, map, take, get_or, ap, ap₂, sym, ◌∙◌, arith}
 use Rattle.std.proofs.lemmas.List.{map_push, take_all, take_more}
+use Rattle.std.specs.declared.alloc.Global.{Global}
+use Rattle.std.specs.declared.vec.Vec.{Vec}
 use Rattle.iso_model.specs.declared.resource.Resource.{Resource}
 use Rattle.iso_plan.specs.KeyTable.{keys}
 use Rattle.iso_plan.specs.RowView.{tree_of}
@@ -20,4 +22,5 @@ keys-preserved c =
 pub returns : goal.returns
 returns c =
     let ks = keys (tree_of c.args.plan.now) in
-    c.keys.invariant ∙ ap (map (start_at c.args.world.now)) (take_all c.keys.number ks (omega arith))
+    let all = c.keys.invariant ∙ ap (map (start_at c.args.world.now)) (take_all c.keys.number ks (omega arith)) in
+    ap (λ (v : Vec Starting Global). v.items) c.in_ok-new.ensures.ok ∙ all

@@ -1,4 +1,5 @@
-use Rattle.std.proofs.Common.{◌≡◌, ℕ, List, [], length, map, None, cond, slice_index_or, ap, ap₂, ◌∙◌}
+use Rattle.std.proofs.Common.{◌≡◌, ℕ, List, [], length, map, None, cond, slice_index_or, ap, ap₂, sym, ◌∙◌}
+use Rattle.std.proofs.lemmas.Result.{IfOk-weaker}
 use Rattle.iso_model.specs.Rights.{Rights, access_in, is_writable}
 use Rattle.iso_model.specs.declared.access.Access.{Access}
 use Rattle.iso_plan.specs.KeyTable.{keys}
@@ -7,23 +8,27 @@ use Rattle.iso_plan.specs.Paths.{column}
 use Rattle.iso_plan.specs.RowView.{tree_of}
 use Rattle.iso_plan.specs.Tree.{Row}
 use Rattle.iso_settings.specs.Worlds.{Start}
+use Rattle.iso_locks.specs.Kept.{kept_by}
 use Rattle.iso_locks.specs.Slots.{Slots, slot}
-use Rattle.iso_locks.specs.Trays.{SavepointView, TrayView, kept, kept_at, marked, start_at}
+use Rattle.iso_locks.specs.Trays.{SavepointView, TrayView, kept, marked, start_at}
 use Rattle.iso_locks.specs.declared.starting.Starting.{Starting}
-use Rattle.iso_locks.proofs.NumberLemmas.{spelled}
-use Rattle.iso_locks.proofs.TouchLemmas.{keys-of}
+use Rattle.iso_locks.proofs.TouchLemmas.{count-of, keys-of}
 use Rattle.iso_locks.proofs.tray.Tray.mark.Goals as goal
 
 kept-is : (tree : List Row) (world : Start) (starts found : List Starting) (rights : List (List ℕ × Access)) (values : Slots) (n : ℕ)
     → starts ≡ map (start_at world) (keys tree) → found ≡ starts → access_in rights ≡ node_rights tree n
-    → column (kept_at rights (map spelled found) values) (length values) ≡ kept tree n values
+    → kept_by rights found values ≡ kept tree n values
 kept-is tree world starts found rights values n e same rights_are =
     ap₂ (λ (r : Rights) (ks : List (List ℕ)). column (λ i. cond (is_writable (r (slice_index_or ks i []))) (slot values i) None) (length values)) rights_are (keys-of tree world found (same ∙ e))
+
+pub of-requires : goal.of-requires
+of-requires c =
+    ap length c.in_ok-starts.ensures ∙ count-of (tree_of c.self.inside.plan.now) c.self.inside.world.now c.self.inside.starts c.self.invariant.starts_are ∙ sym c.self.invariant.values_fit
 
 pub returns : goal.returns
 returns c =
     let tree = tree_of c.self.inside.plan.now in
-    let is = kept-is tree c.self.inside.world.now c.self.inside.starts.items c.deref.result.now c.rights-rights.result.now c.self.inside.values c.args.node c.self.invariant.starts_are
-    c.deref.ensures.value c.rights-rights.ensures in
-    let marks : SavepointView = record { node = c.args.node; values = c.in_ok-values.values.items } in
-    c.new.ensures ∙ ap (λ (vs : Slots). record { node = c.args.node; values = vs }) (c.in_ok-values.ensures ∙ is) ∙ ap (λ (t : TrayView). marked t c.args.node) c.self.view_is
+    let is = kept-is tree c.self.inside.world.now c.self.inside.starts c.in_ok-starts.starts c.rights-rights.result.now c.self.inside.values c.args.node c.self.invariant.starts_are
+    c.in_ok-starts.ensures c.rights-rights.ensures in
+    let marks : Slots → SavepointView = λ vs. record { node = c.args.node; values = vs } in
+    IfOk-weaker c.of.result _ _ (λ m h. h ∙ ap marks is ∙ ap (λ (t : TrayView). marked t c.args.node) c.self.view_is) c.of.ensures

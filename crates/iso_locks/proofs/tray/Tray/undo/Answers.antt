@@ -15,19 +15,19 @@ pub invariant_of-self : goal.invariant_of-self
 invariant_of-self c = record {
   lent_of = c.self.invariant.lent_of;
   lent_fits = c.self.invariant.lent_fits;
-  values_fit = column-count c.into_values.result.items c.self.inside.values c.undo_all.new.self c.undo_all.ensures ∙ c.self.invariant.values_fit;
+  values_fit = column-count c.args.mark.values c.self.inside.values c.go_back.new.values c.go_back.ensures ∙ c.self.invariant.values_fit;
   starts_are = c.self.invariant.starts_are;
   has_room = c.self.invariant.has_room;
   are_owned =
       let tree = tree_of c.self.inside.plan.now in
-      let marks = c.into_values.result.items in
+      let marks = c.args.mark.values in
       let values = c.self.inside.values in
-      let same : restored marks values ≡ c.undo_all.new.self = sym c.undo_all.ensures in
+      let same : restored marks values ≡ c.go_back.new.values = sym c.go_back.ensures in
       let Same : Slots → Type 0 = λ vs. AreOwned tree c.self.inside.flat c.self.inside.lent.held vs in
       subst Same same
       (owned-still tree c.self.inside.flat c.self.inside.lent.held values (restored marks values)
       (restored-there marks values
-      (ap length c.into_values.ensures ∙ c.requires.fits ∙ ap (λ (t : TrayView). length t.values) (sym c.self.view_is))
-      (λ i h e. subst (λ (t : TrayView). HasLater t.values i h) (sym c.self.view_is) (c.requires.later i h (ap (λ (ms : Slots). slot ms i) (sym c.into_values.ensures) ∙ e))))
+      (c.requires.fits ∙ ap (λ (t : TrayView). length t.values) (sym c.self.view_is))
+      (λ i h e. subst (λ (t : TrayView). HasLater t.values i h) (sym c.self.view_is) (c.requires.later i h e)))
       c.self.invariant.are_owned);
 }

@@ -18,15 +18,15 @@ get-requires c =
     let fits = c.self.invariant.values_fit in
     omega arith
 
-pub index-requires : goal.index-requires
-index-requires c =
+pub get-requires-in-None-get : goal.get-requires-in-None-get
+get-requires-in-None-get c =
     let tree = tree_of c.self.inside.plan.now in
     let k = spelling c.args.key in
     let i = c.in-Some.number in
     let at : number_of tree k ≡ Some i = sym c.in-Some.ensures in
     let less : i < length (keys tree) = number-within (keys tree) k (length (keys tree)) i at in
-    let all = count-of tree c.self.inside.world.now c.self.inside.starts.items c.self.invariant.starts_are in
-    omega (arith, c.self.inside.starts.ok.0)
+    let all = count-of tree c.self.inside.world.now c.self.inside.starts c.self.invariant.starts_are in
+    omega arith
 
 pub returns-in-Some-get : goal.returns-in-Some-get
 returns-in-Some-get c =
@@ -47,8 +47,8 @@ returns-in-None-get c =
     let P : TrayView → Type 0 = λ t. HasKind (content t k) (kind_of_ask c.args.ask) in
     let has : HasKind (resources tree c.self.inside.world.now c.self.inside.lent.held c.self.inside.values k) (kind_of_ask c.args.ask) = subst P (sym c.self.view_is) c.requires in
     c.look-in-None-get.ensures
-    ∙ look-start tree c.self.inside.world.now c.self.inside.lent.held c.self.inside.values c.self.inside.starts.items k i c.index.result.now c.args.ask (kind_of_ask c.args.ask)
-    c.self.invariant.starts_are at (sym c.in-None-get.ensures) c.index.ensures has
+    ∙ look-start tree c.self.inside.world.now c.self.inside.lent.held c.self.inside.values c.self.inside.starts k i c.get-in-None-get.result.now c.args.ask (kind_of_ask c.args.ask)
+    c.self.invariant.starts_are at (sym c.in-None-get.ensures) c.get-in-None-get.ensures has
     ∙ ap (λ (t : TrayView). answered (content t k) c.args.ask) c.self.view_is
 
 pub returns-in-None : goal.returns-in-None

@@ -1,7 +1,7 @@
 use Rattle.std.proofs.Common.{◌≡◌, Bool, true, false, Option, None, cond, refl}
 use Rattle.iso_model.specs.Rights.{access_in, is_writable}
 use Rattle.iso_store.specs.Histories.{History}
-use Rattle.iso_locks.proofs.tray.kept_at.Goals as goal
+use Rattle.iso_locks.proofs.kept.kept_at.Goals as goal
 
 nothing : (b : Bool) → None ≡ cond {A = Option History} b None None
 nothing true = refl
