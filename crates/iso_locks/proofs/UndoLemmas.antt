@@ -1,10 +1,9 @@
 -- Going back to a mark: what was unchanged then goes back to its start, what was changed to what was kept.
-use Rattle.std.proofs.Common.{◌≡◌, ◌≢◌, ℕ, ◌+◌, ◌<◌, ◌≤◌, List, [], ◌∷◌, ◌++◌, length, Option, Some, None, Bool, true, false, not, set, ap, ap₂, sym, ◌∙◌, subst, arith, refl, inl, inr}
+use Rattle.std.proofs.Common.{◌≡◌, ◌≢◌, ℕ, ◌+◌, ◌<◌, ◌≤◌, List, [], ◌∷◌, ◌++◌, length, Option, Some, None, Bool, true, false, not, set, ap, sym, ◌∙◌, subst, arith, refl, inl, inr}
 use Rattle.std.specs.Option.{option_or}
 use Rattle.std.proofs.lemmas.Bool.{cases_eq, cases_lt}
 use Rattle.std.proofs.lemmas.Bool.Decides.{Decides-eqb}
 use Rattle.std.proofs.lemmas.List.{get_or-set_same, get_or-set_other, get_or_default, get_or_past, length-set, nil_from_length}
-use Rattle.iso_model.specs.declared.resource.Resource.{Resource}
 use Rattle.iso_plan.proofs.ColumnLemmas.{column-from, column-read, length-column}
 use Rattle.iso_store.proofs.HistoryLemmas.{start_of_earlier}
 use Rattle.iso_store.specs.Histories.{History, IsEarlier, is_unchanged, oldest, start_of}

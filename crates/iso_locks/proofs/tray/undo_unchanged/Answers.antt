@@ -1,4 +1,4 @@
-use Rattle.std.proofs.Common.{◌≡◌, ◌+◌, sym, subst, ◌∙◌, arith}
+use Rattle.std.proofs.Common.{◌+◌, sym, subst, ◌∙◌, arith}
 use Rattle.iso_locks.proofs.UndoLemmas.{restarting-all, restarting-none, restarting-with, restarting-without}
 use Rattle.iso_locks.specs.Slots.{Slots}
 use Rattle.iso_locks.proofs.UndoLemmas.{Restarting}

@@ -1,4 +1,4 @@
-use Rattle.std.proofs.Common.{◌≡◌, ◌≤◌, ℕ, length, ◌/◌, ◌%◌, ◌∙◌, ap, arith, inl, inr}
+use Rattle.std.proofs.Common.{◌≤◌, ℕ, length, ◌/◌, ◌%◌, ◌∙◌, ap, arith, inl, inr}
 use Rattle.std.proofs.lemmas.Bool.{cases_lt}
 use Rattle.std.proofs.lemmas.List.{get_or_past}
 use Rattle.iso_desk.proofs.BitLemmas.{bit_none}

@@ -1,5 +1,4 @@
-use Rattle.std.proofs.Common.{ℕ, ◌≡◌, ◌/◌, ◌%◌, ◌<◌, ◌==◌, ◌∙◌, ap, arith, cond, get_or, length, refl}
-use Rattle.iso_desk.specs.Marking.{bit}
+use Rattle.std.proofs.Common.{◌/◌, ◌<◌, arith, length}
 use Rattle.iso_desk.proofs.BitLemmas.{set_has}
 use Rattle.iso_locks.proofs.key_set.KeySet.set.Goals as goal
 

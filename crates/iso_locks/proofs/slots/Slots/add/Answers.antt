@@ -1,5 +1,4 @@
-use Rattle.std.proofs.Common.{◌≡◌, ◌<◌, ◌==◌, ℕ, Bool, Option, length, cond, ap, ap₂, ◌∙◌, arith}
-use Rattle.iso_store.specs.Histories.{History}
+use Rattle.std.proofs.Common.{◌≡◌, ◌<◌, ◌==◌, ℕ, Bool, length, cond, ap, ap₂, ◌∙◌, arith}
 use Rattle.iso_locks.specs.KeySets.{holds}
 use Rattle.iso_locks.specs.Slots.{has_changed, has_unchanged}
 use Rattle.iso_locks.proofs.SlotLemmas.{noted-push}

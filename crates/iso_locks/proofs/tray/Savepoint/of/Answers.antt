@@ -1,4 +1,4 @@
-use Rattle.std.proofs.Common.{List, ap, sym, subst, ◌∙◌}
+use Rattle.std.proofs.Common.{ap, sym, subst, ◌∙◌}
 use Rattle.iso_locks.proofs.KeptLemmas.{same-kept}
 use Rattle.iso_locks.specs.Kept.{KeepsMark, kept_by}
 use Rattle.iso_locks.specs.Slots.{Slots}
