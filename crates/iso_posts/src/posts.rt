@@ -25,19 +25,20 @@ impl Posts {
     {
         let mut seats = Vec::with_capacity(alloc, workers)?;
         for _ in 0..workers {
-            add_seat(alloc, &mut seats)?;
+            add_seat(alloc, workers, &mut seats)?;
         }
         Ok(seats)
     }
 }
 
-// The seat of one worker more, who steals from all others, and from whom all others steal.
-fn add_seat(alloc: Global, seats: &mut Vec<PostSeat>) -> Result<(), AllocError>
+// The seat of one worker more, who steals from all others, and from whom all others steal. It has
+// room for thieves of `workers` workers.
+fn add_seat(alloc: Global, workers: usize, seats: &mut Vec<PostSeat>) -> Result<(), AllocError>
     requires { ArePosts (length seats.old.items) seats.old.items }
     ensures { OnOk result (ArePosts (length seats.old.items + 1) seats.new.items) }
 {
     let mut owner = Owner::new(alloc)?;
-    let mut thieves = Vec::with_capacity(alloc, seats.len())?;
+    let mut thieves = Vec::with_capacity(alloc, workers)?;
     for at in 0..seats.len() {
         let other: &mut PostSeat = &mut seats[at];
         thieves.push(other.owner.thief()?)?;
