@@ -50,12 +50,12 @@ impl Takers {
 }
 
 impl Hints {
-    /// Of a plan, none. It takes all memory that its calls need, and goes over all locks.
+    /// Of a plan, none. It takes all memory that its calls need, and goes over all lead locks.
     pub(crate) fn new(alloc: Global, plan: &Plan) -> Result<Hints, AllocError> {
         let takers = takers_of(alloc, plan)?;
         let mut places = Vec::with_capacity(alloc, plan.len() as usize)?;
         for node in 0..plan.len() {
-            places.push(place_of(plan.locks(node), &takers, plan.len()))?;
+            places.push(place_of(plan.lead_locks(node), &takers, plan.len()))?;
         }
         Ok(Hints {
             places,
@@ -102,7 +102,7 @@ fn takers_of(alloc: Global, plan: &Plan) -> Result<Vec<Takers>, AllocError> {
     };
     let mut takers = vec![in alloc; unused; plan.key_count() as usize]?;
     for node in 0..plan.len() {
-        add_locks(&mut takers, plan.locks(node));
+        add_locks(&mut takers, plan.lead_locks(node));
     }
     Ok(takers)
 }
