@@ -105,6 +105,7 @@ impl<'a, G: Ground> Desk<'a, G> {
     /// one worker that waits and has something to wake for, which is called by it. Where nobody is
     /// called, no worker that waits and wasn't called could enter a node in its own lines or in
     /// everyone's, or one that was entered.
+    #[inline(always)]
     pub(crate) fn wakes(&mut self) -> Wakes
         ensures book { self.new.book ≡ self.old.book }
         ensures nobody { result.worker ≡ None → (w : ℕ) → w < length self.old.scheduler.members

@@ -458,6 +458,7 @@ impl Scheduler {
 
     /// Calls a worker that waits, wasn't called, and has something to wake for, if there is one,
     /// where the run is over or isn't.
+    #[inline(always)]
     pub(crate) fn call(&mut self, is_over: bool) -> Option<u32>
         ensures whom { MatchOption result ((w : ℕ) → w < length self.old.members
             → awaits (member_of self.old.members w) ≡ true

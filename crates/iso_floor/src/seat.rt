@@ -152,6 +152,7 @@ impl<'a, G: Ground> Seat<'a, G> {
     }
 
     // Enters a node at a desk.
+    #[inline(always)]
     pub(crate) fn enter_at(&mut self, desk: &mut Desk<'a, G>, node: u32) -> Result<(), CoreFault>
         ensures entered { OnOk result (IsEntered node self.old.tray self.new.tray) }
         ensures taken { OnOk result
