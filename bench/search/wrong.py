@@ -35,8 +35,9 @@ EDITS = {
             "        if WRONG && self.is_loose(node) {\n            return Ok(());\n        }\n        self.line_up(node, Line::Key(line))\n",
         )
     ],
-    # nobody is called at the end of a turn; of a Leave
+    # nobody is called at the end of a turn; of a Leave and the turn with it; of a Leave alone
     "no-call-turn": no_call("turn"),
+    "no-call-leave-and-turn": no_call("next"),
     "no-call-leave": no_call("left"),
     # another worker is called than one that has something to wake for
     "another-called": [

@@ -158,19 +158,16 @@ module _ (plan : Planned) (start : Start) (tree : IsTree (tree_of plan)) where
       let l : IsLentTo n (handed f.before (parent (tree_of f.before.plan) n)) u = f.entered.lent in
       none-by (slot w.values i) (λ some. none-above n f.before u (sym l.plan ∙ up) f.free f.entered law i (inside.tray.holds.only i some))
 
-  -- a class that takes no key for READ_WRITE is opened without a value
-  pub opened-free : (n : ℕ) (u w : TrayView) → u.plan ≡ plan → IsEnteredFree n u → FindsItsValues u → takes_write tr n ≡ false → IsInside plan start n w → IsFree w
-  opened-free n u w up f law reads inside i =
+  -- a node that takes no key for READ_WRITE was entered without a value
+  pub entered-free : (n : ℕ) (u : TrayView) → u.plan ≡ plan → IsEnteredFree n u → takes_write tr n ≡ false → IsFree u
+  entered-free n u up f reads i =
       let l : IsLentTo n (handed f.before (parent (tree_of f.before.plan) n)) u = f.entered.lent in
-      none-by (slot w.values i) (λ some.
-      let on = inside.tray.holds.only i some in
-      elim (cases_eq on.node n) [
-        | inl same ↦
-            let wrong : false ≡ true = sym reads ∙ ap (takes_write tr) (sym same) ∙ writer on.node i on.writes in
-            cc
-        | inr other ↦ none-above n f.before u (sym l.plan ∙ up) f.free f.entered law i
-            (record { node = on.node; above = sym (above-parent tr tree.below on.node n f.entered.inner other) ∙ on.above; writes = on.writes })
-      ])
+      elim (true-or-false (is_written (locks tr n) i)) [
+        | inl own ↦
+            let wrong : false ≡ true = sym reads ∙ writer n i own in
+            absurd (cc)
+        | inr apart ↦ l.others i (ap (λ (p : Planned). is_written (locks (tree_of p) n) i) (sym l.plan ∙ up) ∙ apart) ∙ f.free i
+      ]
 
   -- where a class was shut with such a tray, neither it nor one around it takes a key for READ_WRITE
   none-on : (n : ℕ) (u : TrayView) → u.plan ≡ plan → 0 < n → (f : IsShutFree n u) → FindsItsValues u → NoneWritten n

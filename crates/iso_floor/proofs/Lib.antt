@@ -10,6 +10,7 @@ pub mod KeyLemmas
 pub mod LooseLemmas
 pub mod PlaceLemmas
 pub mod NextLemmas
+pub mod NextTurns
 pub mod NoNodes
 pub mod NodeTrays
 pub mod Outcomes

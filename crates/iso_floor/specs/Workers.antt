@@ -3,8 +3,9 @@
 --
 -- a worker between bodies: Where a worker's tray stands: it has no value (`IsFree`); a node was
 -- entered and no body of it has begun (`IsAtEntry`); all stands as a class's opening has left it
--- (`IsInside`); what the worker found to do (`IsTurn`); why it goes on no further, and what it is
--- told then (`halt_of`, `cause_of`). No public clause cites it but `cause_of`.
+-- (`IsInside`); what the worker found to do (`IsTurn`), also as it left a node (`IsNextTurn`,
+-- `GoesOnFree`); why it goes on no further, and what it is told then (`halt_of`, `cause_of`). No
+-- public clause cites it but `cause_of`.
 -- Also in: `Turning`, `Halts`.
 use Rattle.std.specs.Prelude.{◌≡◌, ℕ, ◌<◌, length, true, false, None}
 use Rattle.iso_book.specs.Leaves.{is_last}

@@ -6,13 +6,14 @@ ghost use Rattle.iso_floor.specs.Answering.{EndsWait, HasRoom, IsFull, OfSomeBoo
 ghost use Rattle.iso_floor.specs.Closing.{IsCloseFault, IsSeatFault, IsWhole};
 ghost use Rattle.iso_floor.specs.Grounds.{IsBookOf};
 ghost use Rattle.iso_floor.specs.Seats.{HasLeft, SeatView, lists_of, new_seat};
-ghost use Rattle.iso_floor.specs.Turning.{IsTurn};
+ghost use Rattle.iso_floor.specs.Turning.{IsNextTurn, IsTurn};
 ghost use Rattle.iso_locks.specs.Trays.{is_lent};
 
 use crate::close::settle;
 use crate::desk::{Desk, Wakes};
 use crate::fault::{CloseFault, SeatFault};
 use crate::ground::Ground;
+use crate::halt::Halt;
 use crate::seat::Seat;
 use crate::turn::Turn;
 use iso_book::book::Book;
@@ -244,6 +245,26 @@ impl<'a, G: Ground> Floor<'a, G> {
         };
         self.tell(wakes);
         turn
+    }
+
+    /// Books what a body of a seat's worker came to, and looks for something to do next, as `turn`
+    /// does, unless a look into other workers' deques has to come before. It may wait for the lock.
+    pub(crate) fn leave_and_turn<R: Wait>(
+        &self,
+        rt: &R,
+        seat: &mut Seat<'a, G>,
+        done: Done,
+    ) -> Result<Option<Turn>, Halt>
+        requires { MayBring done seat.old.tray }
+        ensures { IfOk result (λ next. IsNextTurn done next seat.old seat.new) }
+    {
+        let (next, wakes) = {
+            let mut desk = self.desk.lock(rt);
+            let next = seat.leave_and_turn_at(&mut *desk, done);
+            (next, desk.wakes())
+        };
+        self.tell(wakes);
+        next
     }
 
     /// Waits until there is something for a worker to try, or nothing more is to be done; not at

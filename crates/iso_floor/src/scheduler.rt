@@ -22,8 +22,8 @@
 //!    stands in the owner's own line, and so does the class itself after its last child.
 //! 10. A worker waits while the run goes on, nothing stands in its own line, nothing of its own or
 //!     of everyone's is on offer, and no node lies in a deque, as far as it has seen.
-//! 11. Every turn, Leave and stop ends with a call: one worker that waits, wasn't called, and has
-//!     something to wake for.
+//! 11. Every turn, Leave and stop ends with a call, a Leave and the turn in the same hold of the
+//!     lock with one: one worker that waits, wasn't called, and has something to wake for.
 ghost use Rattle.std.specs.Prelude.{◌≡◌, ◌≢◌, ◌<◌, ◌≤◌, ◌+◌, ◌^◌, ◌==◌, ℕ, List, [], IfOk, IfSome, IsTrue, MatchOption, None, OnErr, OnOk, cond, false, length, not, true};
 ghost use Rattle.std.specs.Bool.{Decides};
 ghost use Rattle.iso_desk.specs.Crews.{awaits, called, looking, member_of, waiting};
@@ -85,6 +85,8 @@ pub(crate) struct Scheduler {
     opening: Vec<Option<u32>>,
     /// How many nodes are `Loose`.
     loose: usize,
+    /// How many nodes stand in lines: mostly none, and then none is asked for what it calls.
+    lined: usize,
     /// How often a class was opened up of which nodes were posted.
     rounds: u64,
 }
@@ -141,6 +143,7 @@ impl Scheduler {
             shared: vec![in alloc; false; nodes]?,
             opening: vec![in alloc; None; workers as usize]?,
             loose: 0,
+            lined: 0,
             rounds: 0,
         })
     }
@@ -235,6 +238,7 @@ impl Scheduler {
         let line = line_for(&self.table, &self.keys, worker)?;
         let node = self.table.first(line)?;
         self.table.leave(node, line, Place::Closed);
+        self.lined = self.lined.saturating_sub(1);
         Some(node)
     }
 
@@ -407,7 +411,10 @@ impl Scheduler {
             return false;
         }
         let opened = self.opening.get(worker as usize).copied().flatten();
-        opened.is_some() || line_for(&self.table, &self.keys, worker).is_some()
+        if opened.is_some() {
+            return true;
+        }
+        self.lined > 0 && line_for(&self.table, &self.keys, worker).is_some()
     }
 
     /// A worker begins to wait with what it has seen.
@@ -546,6 +553,7 @@ impl Scheduler {
     {
         let was = is_loose(self.table.place(node));
         self.table.line_up(node, line)?;
+        self.lined = self.lined.saturating_add(1);
         self.loose = recounted(self.loose, was, false);
         Ok(())
     }
@@ -561,6 +569,7 @@ impl Scheduler {
     {
         let was = is_loose(self.table.place(node));
         self.table.line_up_first(node, line)?;
+        self.lined = self.lined.saturating_add(1);
         self.loose = recounted(self.loose, was, false);
         Ok(())
     }

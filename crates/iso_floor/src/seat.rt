@@ -113,6 +113,20 @@ impl<'a, G: Ground> Seat<'a, G> {
         }
     }
 
+    /// Takes a node out of the worker's own deque, as `look_into_deques` does first. It answers none
+    /// where the other deques are to be looked into.
+    pub(crate) fn look_into_own_deque(&mut self) -> Option<Look>
+        ensures { self.new ≡ self.old }
+    {
+        if mem::replace(&mut self.is_called, false) {
+            return Some(Look::Skipped);
+        }
+        match self.posts.owner.take() {
+            Some(node) => Some(Look::Found(node)),
+            None => None,
+        }
+    }
+
     /// The worker whose seat it is.
     pub fn worker(&self) -> u32
         ensures { result ≡ self.now.worker }
@@ -183,6 +197,7 @@ impl<'a, G: Ground> Seat<'a, G> {
     }
 
     // Books at a desk what a body came to, where there is room for its receipt.
+    #[inline(always)]
     pub(crate) fn leave_at(
         &mut self,
         desk: &mut Desk<'a, G>,

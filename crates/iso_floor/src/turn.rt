@@ -1,7 +1,8 @@
 //! What a worker finds to do.
-ghost use Rattle.std.specs.Prelude.{◌≡◌, MatchOption};
+ghost use Rattle.std.specs.Prelude.{◌≡◌, IfOk, MatchOption, OnOk};
+ghost use Rattle.iso_book.specs.Leaves.{MayBring, after_leave};
 ghost use Rattle.iso_book.specs.Progress.{phase_in};
-ghost use Rattle.iso_floor.specs.Turning.{IsTurn};
+ghost use Rattle.iso_floor.specs.Turning.{IsNextTurn, IsTurn};
 ghost use Rattle.iso_standing.specs.declared.phase.Phase.TheVariants.{Open};
 
 use crate::desk::Desk;
@@ -10,6 +11,7 @@ use crate::halt::Halt;
 use crate::refusal::{Meaning, meant_by};
 use crate::seat::Seat;
 use crate::worker::is_done_whole;
+use iso_lifecycle::done::Done;
 use iso_standing::refused::CoreFault;
 
 /// What a worker finds to do.
@@ -31,6 +33,7 @@ impl<'a, G: Ground> Seat<'a, G> {
     /// Shuts or opens up the class that this seat's worker has just opened, attempts a node that
     /// was found in a deque, if one was, and then what waits for this worker, one node after
     /// another, until an event was taken or nothing is left to try.
+    #[inline(always)]
     pub(crate) fn turn_at(&mut self, desk: &mut Desk<'a, G>, found: Option<u32>) -> Turn
         ensures { IsTurn result self.old self.new }
     {
@@ -55,6 +58,40 @@ impl<'a, G: Ground> Seat<'a, G> {
             }
         }
         Turn::Wait
+    }
+
+    /// Books what a body of this seat's worker came to, and looks for something to do next, as
+    /// `turn_at` does. It answers none where other workers' deques are to be looked into before.
+    pub(crate) fn leave_and_turn_at(
+        &mut self,
+        desk: &mut Desk<'a, G>,
+        done: Done,
+    ) -> Result<Option<Turn>, Halt>
+        requires { MayBring done self.old.tray }
+        ensures { IfOk result (λ next. IsNextTurn done next self.old self.new) }
+    {
+        self.leave_or_halt_at(desk, done)?;
+        Ok(self.next_turn_at(desk))
+    }
+
+    // Books what a body came to. Where that is refused, the worker goes on no further.
+    fn leave_or_halt_at(&mut self, desk: &mut Desk<'a, G>, done: Done) -> Result<(), Halt>
+        requires { MayBring done self.old.tray }
+        ensures { OnOk result (self.new.tray
+            ≡ after_leave done.kind done.subject.node self.old.tray) }
+    {
+        match self.leave_at(desk, done) {
+            Ok(()) => Ok(()),
+            Err(_) => Err(Halt::Stopped),
+        }
+    }
+
+    // Looks for something to do after a Leave, unless other workers' deques come first.
+    fn next_turn_at(&mut self, desk: &mut Desk<'a, G>) -> Option<Turn>
+        ensures { MatchOption result (self.new ≡ self.old) (λ turn. IsTurn turn self.old self.new) }
+    {
+        let look = self.look_into_own_deque()?;
+        Some(self.turn_at(desk, look.node()))
     }
 
     // Shuts the class that the worker has just opened, or opens it up where a child is left.

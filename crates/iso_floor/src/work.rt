@@ -1,6 +1,6 @@
 //! A worker's whole run.
-ghost use Rattle.std.specs.Prelude.{IsTrue};
-ghost use Rattle.iso_floor.specs.Turning.{IsTurn};
+ghost use Rattle.std.specs.Prelude.{IsTrue, Some};
+ghost use Rattle.iso_floor.specs.Turning.{GoesOnFree, IsTurn};
 ghost use Rattle.iso_floor.specs.Workers.{IsFree};
 
 use crate::floor::Floor;
@@ -87,16 +87,33 @@ fn take_turns<'a, G: Ground, R: Wait, T: Gate>(
         return Err(Halt::Stopped);
     }
     let mut rounds = 0;
+    let mut next = None;
     'turns: for _ in worker.rt.forever() {
-        match take_turn(worker, seat, &mut rounds) {
+        next = match turn_of(worker, seat, &mut rounds, next) {
             Turn::Entered(node) => worker.begin_entered(seat, node)?,
             Turn::Shut(class) => worker.end_shut(seat, class)?,
-            Turn::Wait => {}
+            Turn::Wait => None,
             Turn::Finished => return Ok(()),
             Turn::Halted(halt) => return Err(halt),
-        }
+        };
     }
     Ok(())
+}
+
+// What was found to do next, else what is found now.
+fn turn_of<'a, G: Ground, R: Wait, T: Gate>(
+    worker: &Worker<'_, 'a, G, R, T>,
+    seat: &mut Seat<'a, G>,
+    rounds: &mut u64,
+    next: Option<Turn>,
+) -> Turn
+    requires { GoesOnFree next seat.old }
+    ensures { GoesOnFree (Some result) seat.new }
+{
+    match next {
+        Some(turn) => turn,
+        None => take_turn(worker, seat, rounds),
+    }
 }
 
 // Looks for something to do, in the deques first unless the scheduler calls for this worker, and

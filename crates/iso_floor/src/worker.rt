@@ -1,6 +1,7 @@
 //! What a worker does with the nodes that it enters, outside the lock.
 ghost use Rattle.std.specs.Prelude.{◌≡◌, ◌<◌, ◌||◌, IfOk, OnOk, false, length, true};
 ghost use Rattle.iso_book.specs.Leaves.{MayBring, after_leave};
+ghost use Rattle.iso_floor.specs.Turning.{GoesOnFree};
 ghost use Rattle.iso_floor.specs.Workers.{CanPerform, FurtherFromEntry, IsAtEntry, IsEnclosed, IsEnteredFree, IsFree, IsInside, IsLastOf, IsShutFree};
 ghost use Rattle.iso_lifecycle.specs.Subjects.{subject};
 ghost use Rattle.iso_locks.specs.Trays.{GoesOn};
@@ -14,6 +15,7 @@ use crate::ground::Ground;
 use crate::halt::Halt;
 use crate::refusal::{Meaning, meant_by};
 use crate::seat::Seat;
+use crate::turn::Turn;
 use iso_lifecycle::body::Body;
 use iso_lifecycle::done::Done;
 use iso_lifecycle::gate::Gate;
@@ -40,31 +42,57 @@ pub(crate) struct Worker<'w, 'a, G: Ground, R, T> {
 }
 
 impl<'w, 'a, G: Ground, R: Wait, T: Gate> Worker<'w, 'a, G, R, T> {
-    /// Goes on with a node that was entered with a tray that had no value: opens a class that takes
-    /// no key for READ_WRITE, and does any other node whole. The tray has no value again.
-    pub(crate) fn begin_entered(&self, seat: &mut Seat<'a, G>, node: u32) -> Result<(), Halt>
+    /// Goes on with a node that was entered with a tray that had no value: does a node whole that
+    /// takes a key for READ_WRITE, else a test, or opens a class. The tray has no value again,
+    /// unless the worker has found what to do next.
+    pub(crate) fn begin_entered(
+        &self,
+        seat: &mut Seat<'a, G>,
+        node: u32,
+    ) -> Result<Option<Turn>, Halt>
         requires { IsEnteredFree node seat.old.tray }
-        ensures { OnOk result (IsFree seat.new.tray) }
+        ensures { IfOk result (λ next. GoesOnFree next seat.new) }
     {
         let plan = self.floor.plan();
         laws::nodes_are_a_tree(plan);
         iso_locks::laws::lent_nodes_find_their_values(seat.tray());
-        if is_done_whole(plan, node) {
-            self.finish(seat, node)
+        if takes_write(plan.locks(node)) {
+            self.finish(seat, node)?;
+            return Ok(None);
+        }
+        if plan.is_test(node) {
+            self.perform_and_turn(seat, node, BodyKind::Test)
         } else {
-            self.open(seat, node)
+            self.perform_and_turn(seat, node, BodyKind::BeforeAll)
         }
     }
 
-    /// Ends a class that was shut with a tray that has no value. The tray has none still.
-    pub(crate) fn end_shut(&self, seat: &mut Seat<'a, G>, class: u32) -> Result<(), Halt>
+    /// Ends a class that was shut with a tray that has no value. The tray has none still, unless
+    /// the worker has found what to do next.
+    pub(crate) fn end_shut(&self, seat: &mut Seat<'a, G>, class: u32) -> Result<Option<Turn>, Halt>
         requires { IsShutFree class seat.old.tray }
-        ensures { OnOk result (IsFree seat.new.tray) }
+        ensures { IfOk result (λ next. GoesOnFree next seat.new) }
     {
         laws::nodes_are_a_tree(self.floor.plan());
         iso_locks::laws::lent_nodes_find_their_values(seat.tray());
-        let done = self.perform(seat, class, BodyKind::AfterAll)?;
-        self.leave(seat, done)
+        self.perform_and_turn(seat, class, BodyKind::AfterAll)
+    }
+
+    /// Does a body with a tray that has no value, leaves it, and looks for what to do next while
+    /// the lock is held. No value is marked, since there is none that the body could change.
+    fn perform_and_turn(
+        &self,
+        seat: &mut Seat<'a, G>,
+        node: u32,
+        kind: BodyKind,
+    ) -> Result<Option<Turn>, Halt>
+        requires can { CanPerform G.plan G.start kind node seat.old.tray }
+        requires free { IsFree seat.old.tray }
+        ensures { IfOk result (λ next. GoesOnFree next seat.new) }
+    {
+        let _tray = seat.tray();
+        let done = self.perform(seat, node, kind)?;
+        self.floor.leave_and_turn(self.rt, seat, done)
     }
 
     /// Does what stands directly in a class that this worker does whole.
