@@ -1,7 +1,8 @@
 -- How far nodes have come in the book, and that they may have their places, after each event.
-use Rattle.std.proofs.Common.{◌≡◌, ◌≢◌, ℕ, ◌<◌, List, [], ◌∷◌, length, Option, Some, None, is_none, Result, Ok, Err, IfErr, MatchResult, Bool, true, false, ◌&&◌, ◌||◌, not, ap, sym, subst, ◌∙◌, inl, inr, refl}
-use Rattle.std.proofs.lemmas.Bool.{cases_eq, cases_lt}
+use Rattle.std.proofs.Common.{◌≡◌, ◌≢◌, ℕ, ◌<◌, List, [], ◌∷◌, length, Option, Some, None, is_none, Result, Ok, Err, IfErr, MatchResult, Bool, true, false, ◌&&◌, ◌||◌, not, leb, ap, sym, subst, ◌∙◌, inl, inr, refl}
+use Rattle.std.proofs.lemmas.Bool.{cases_eq, cases_lt, ne_eqb}
 use Rattle.std.proofs.lemmas.List.{get_or_past}
+use Rattle.std.proofs.Math.Dec.{eqb}
 use Rattle.std.specs.Option.{option_or}
 use Rattle.iso_book.specs.Books.{BookView, new_book, refusal_in, state_in, suite_in}
 use Rattle.iso_book.specs.Progress.{HasEntered, HasGoneOn, HasShut, StayEntered, has_come, owner_in, phase_in}
@@ -9,11 +10,11 @@ use Rattle.iso_book.specs.Turns.{IsFaultOf, IsNotTaken, IsRefusedBy}
 use Rattle.iso_desk.specs.Places.{place_of}
 use Rattle.iso_desk.specs.declared.place.Place.{Place}
 use Rattle.iso_desk.specs.declared.place.Place.TheVariants.{Closed, InLine, Loose, Open, Over, With}
-use Rattle.iso_floor.specs.Desks.{IsAt}
+use Rattle.iso_floor.specs.Desks.{IsAt, IsOpenFor}
 use Rattle.iso_floor.specs.Halts.{meaning_of}
 use Rattle.iso_floor.specs.Schedulers.{IsMoved, is_entered}
 use Rattle.iso_floor.specs.declared.refusal.Meaning.TheVariants as M
-use Rattle.iso_isolation.proofs.Accepted.{enter_passes, not_refused}
+use Rattle.iso_isolation.proofs.Accepted.{enter_passes, in_plan, not_refused}
 use Rattle.iso_isolation.specs.Refusals as Why
 use Rattle.iso_isolation.specs.Refusals.{children_left, first_of, has_unfinished_child, is_root, no_node, no_worker, not_class, not_open, not_owner, refuse, stopped, worker_busy}
 use Rattle.iso_isolation.specs.States as States
@@ -205,15 +206,17 @@ second-waits true w e = absurd (cc)
 second-waits false true e = refl
 second-waits false false e = absurd (cc)
 
-pub at-refused : (b : BookView) (w n : ℕ) (p : Place) → is_entered p ≡ true → IsAt b n p → refusal_in b (Enter w n) ≢ None
-at-refused b w n p e is none =
+pub waiting-told : (b : BookView) (w n : ℕ) → refusal_in b (Enter w n) ≡ None → phase_in b n ≡ P.Waiting
+waiting-told b w n none =
     let st = (state_in b).nodes.status n in
     let passes = enter_passes scripts (suite_in b) b.workers (state_in b) w n (ap (λ (o : Option Why.Refused). is_none o) none) in
-    at-entered b n p e is
-    (waiting-phase st (second-waits (is_root n) (is_waiting st) (not_refused (is_root n || not (is_waiting st)) Why.AlreadyEntered passes.fresh)))
+    waiting-phase st (second-waits (is_root n) (is_waiting st) (not_refused (is_root n || not (is_waiting st)) Why.AlreadyEntered passes.fresh))
 
--- a class that is refused to be shut since children are left is open
-open-phase : (st : Status Stage Frame Outcome) → is_open st ≡ true → phase_of st ≡ P.Open
+pub at-refused : (b : BookView) (w n : ℕ) (p : Place) → is_entered p ≡ true → IsAt b n p → refusal_in b (Enter w n) ≢ None
+at-refused b w n p e is none = at-entered b n p e is (waiting-told b w n none)
+
+-- a class that is refused to be shut since children are left is open, and the worker's
+pub open-phase : (st : Status Stage Frame Outcome) → is_open st ≡ true → phase_of st ≡ P.Open
 open-phase States.Waiting e = absurd (cc)
 open-phase (States.Begun b) e = absurd (cc)
 open-phase (States.Open fs) e = refl
@@ -233,7 +236,14 @@ both-left : (a c : Bool) → option_or (refuse (a && c) Why.ChildrenLeft) None �
 both-left true c e = refl
 both-left false c e = absurd (cc)
 
-left-open : (b : BookView) (w n : ℕ) → refusal_in b (Shut w n) ≡ Some Why.ChildrenLeft → phase_in b n ≡ P.Open
+not-kind : (a : Bool) (k : Why.Refused) (o : Option Why.Refused) → (k ≡ Why.ChildrenLeft → ⊥) → option_or (refuse a k) o ≡ Some Why.ChildrenLeft → a ≡ false
+not-kind true k o ne e = let same : k ≡ Why.ChildrenLeft = cc in absurd (ne same)
+not-kind false k o ne e = refl
+
+pub owner-by : (v w : ℕ) → not (eqb v w) ≡ false → v ≡ w
+owner-by v w e = elim (cases_eq v w) [ inl same ↦ same | inr other ↦ let wrong : true ≡ false = sym (ap not (ne_eqb v w other)) ∙ e in absurd (cc) ]
+
+left-open : (b : BookView) (w n : ℕ) → refusal_in b (Shut w n) ≡ Some Why.ChildrenLeft → IsOpenFor b n w
 left-open b w n e =
     let x = suite_in b in
     let v = b.workers in
@@ -252,20 +262,24 @@ left-open b w n e =
     let e6 = past k5 (first_of (k6 ∷ k7 ∷ k8 ∷ [])) (other-kind _ Why.NotClass (λ k. cc)) e5 in
     let e7 = past k6 (first_of (k7 ∷ k8 ∷ [])) (other-kind _ Why.NotOpen (λ k. cc)) e6 in
     let e8 = past k7 (first_of (k8 ∷ [])) (other-kind _ Why.NotOwner (λ k. cc)) e7 in
-    open-phase (s.nodes.status n) (both-left (is_open (s.nodes.status n)) (has_unfinished_child scripts x v s n) e8)
+    record {
+      within = in_plan x.nodes n (not-kind (leb x.nodes n) Why.NoNode (first_of (k4 ∷ k5 ∷ k6 ∷ k7 ∷ k8 ∷ [])) (λ k. cc) e3);
+      phase = open-phase (s.nodes.status n) (both-left (is_open (s.nodes.status n)) (has_unfinished_child scripts x v s n) e8);
+      owner = owner-by (s.owner n) w (not-kind (not (eqb (s.owner n) w)) Why.NotOwner (first_of (k8 ∷ [])) (λ k. cc) e7);
+    }
 
 for-children : (o : Option Why.Refused) (asked : Type 0) → IsRefusedBy o asked Why.ChildrenLeft → o ≡ Some Why.ChildrenLeft
 for-children (Some k) asked e = ap (λ (j : Why.Refused). Some j) (sym e)
 for-children None asked e = let wrong : Why.ChildrenLeft ≡ Why.Stranger = e.0 in absurd (cc)
 
 fault-open : (b c : BookView) (w n : ℕ) (asked : Type 0) (t u : TrayView) (fault : CoreFault) → fault ≡ F.Refused Code.ChildrenLeft → IsNotTaken fault (Shut w n) asked b c t u
-    → phase_in c n ≡ P.Open
+    → IsOpenFor c n w
 fault-open b c w n asked t u fault e not =
     let why : IsFaultOf (refusal_in b (Shut w n)) asked (F.Refused Code.ChildrenLeft) = subst (IsFaultOf (refusal_in b (Shut w n)) asked) e not.why in
-    subst (λ (x : BookView). phase_in x n ≡ P.Open) (sym not.book) (left-open b w n (for-children (refusal_in b (Shut w n)) asked why))
+    subst (λ (x : BookView). IsOpenFor x n w) (sym not.book) (left-open b w n (for-children (refusal_in b (Shut w n)) asked why))
 
 pub shut-open : {A : Type 0} (b c : BookView) (w n : ℕ) (asked taken : Type 0) (t u : TrayView) (r : Result A CoreFault)
-    → MatchResult r (λ _. taken) (λ fault. IsNotTaken fault (Shut w n) asked b c t u) → IfErr r (λ fault. fault ≡ F.Refused Code.ChildrenLeft → phase_in c n ≡ P.Open)
+    → MatchResult r (λ _. taken) (λ fault. IsNotTaken fault (Shut w n) asked b c t u) → IfErr r (λ fault. fault ≡ F.Refused Code.ChildrenLeft → IsOpenFor c n w)
 shut-open b c w n asked taken t u (Ok x) m = tt
 shut-open b c w n asked taken t u (Err y) m = λ e. fault-open b c w n asked t u y e m
 

@@ -9,11 +9,14 @@ pub mod HintLemmas
 pub mod KeyLemmas
 pub mod LooseLemmas
 pub mod PlaceLemmas
+pub mod PostingLemmas
 pub mod NextLemmas
 pub mod NextTurns
 pub mod NoNodes
 pub mod NodeTrays
 pub mod Outcomes
+pub mod OwnerLemmas
+pub mod PartyLemmas
 pub mod RightLemmas
 pub mod SchedulerLemmas
 pub mod Sharing

@@ -1,5 +1,5 @@
 -- How many nodes are loose when one of them gets another place.
-use Rattle.std.proofs.Common.{◌≡◌, ◌≢◌, ℕ, zero, suc, ◌+◌, ◌<◌, ◌≤◌, ◌==◌, ◌^◌, List, Some, length, replicate, set, Bool, false, ◌&&◌, not, cond, ap, ap₂, sym, ◌∙◌, inl, inr, arith, refl, subst}
+use Rattle.std.proofs.Common.{◌≡◌, ◌≢◌, ℕ, zero, suc, ◌+◌, ◌<◌, ◌≤◌, ◌==◌, ◌^◌, List, Some, length, replicate, set, Bool, true, false, ◌&&◌, not, cond, ap, ap₂, sym, ◌∙◌, inl, inr, arith, refl, subst}
 use Rattle.std.proofs.lemmas.Bool.{cases_eq}
 use Rattle.std.proofs.lemmas.List.{get_or-set_same, get_or-set_other, length-set}
 use Rattle.iso_desk.specs.Places.{StandsIn, line_in, place_of}
@@ -91,6 +91,9 @@ has-room ps n loose p was is h few l w i =
 pub none-loose : (n : ℕ) → loose_in (replicate n Closed) ≡ 0
 none-loose n = count-none (λ k. is_loose (place_of (replicate n Closed) k)) (length (replicate n Closed)) (λ m h. ap is_loose (all-closed n m))
 
--- who leaves a line for a place that isn't a loose one
-pub left-line : (ps : List Place) (n : ℕ) (p : Place) (l : Line) (loose : ℕ) → n < length ps → StandsIn ps l n → is_loose p ≡ false → loose ≡ loose_in ps → loose ≡ loose_in (set ps n p)
-left-line ps n p l loose h s f e = recount ps n p loose loose false false h e (sym (not-in-line (place_of ps n) l s)) (sym f) refl
+-- who leaves a line is counted as loose, and there is room for it
+pub left-line : (ps : List Place) (n : ℕ) (l : Line) (loose r : ℕ) → n < length ps → StandsIn ps l n → loose ≡ loose_in ps → r + 0 ≡ loose + 1 → r ≡ loose_in (set ps n Loose)
+left-line ps n l loose r h s e more = recount ps n Loose loose r false true h e (sym (not-in-line (place_of ps n) l s)) refl more
+
+pub line-room : (ps : List Place) (n : ℕ) (l : Line) (loose : ℕ) → n < length ps → length ps < 2 ^ 64 → StandsIn ps l n → loose ≡ loose_in ps → loose + 1 < 2 ^ 64 + 0
+line-room ps n l loose h few s e = has-room ps n loose Loose false true h few e (sym (not-in-line (place_of ps n) l s)) refl

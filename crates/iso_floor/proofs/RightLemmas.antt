@@ -8,7 +8,7 @@ use Rattle.iso_desk.specs.declared.line.KeyLine.{KeyLine}
 use Rattle.iso_desk.specs.declared.line.Line.{Line}
 use Rattle.iso_desk.specs.declared.line.Line.TheVariants.{Key, Own}
 use Rattle.iso_desk.specs.declared.place.Place.{Place}
-use Rattle.iso_desk.specs.declared.place.Place.TheVariants.{Closed, InLine}
+use Rattle.iso_desk.specs.declared.place.Place.TheVariants.{Closed, InLine, Loose}
 use Rattle.iso_floor.specs.Schedulers.{SchedulerView, Takes, WaitRightly, next_taken, put}
 use Rattle.iso_model.specs.contracts.access.Access as access
 use Rattle.iso_model.specs.declared.access.Access.{Access}
@@ -74,7 +74,7 @@ access-by a w e = ap (λ (b : Bool). cond b Write Read) e ∙ access-is a
 -- the node that is taken next leaves its line
 pub right-taken : (tree : List Row) (t : TableView) (o : Option ℕ) → WaitRightly tree t.places → WaitRightly tree (next_taken o t).places
 right-taken tree t None w = w
-right-taken tree t (Some n) w = right-moved tree t n Closed refl w
+right-taken tree t (Some n) w = right-moved tree t n Loose refl w
 
 -- after a step that either does this to the table, or nothing
 pub right-after : {A E : Type 0} (r : Result A E) (tree : List Row) (s s' : SchedulerView) (t : TableView) → OnOk r (s'.table ≡ t) → OnErr r (s' ≡ s)

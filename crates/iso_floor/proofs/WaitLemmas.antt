@@ -11,8 +11,11 @@ use Rattle.iso_desk.specs.Places.{StandsIn, place_of}
 use Rattle.iso_desk.specs.declared.line.KeyLine.{KeyLine}
 use Rattle.iso_desk.specs.declared.line.Line.TheVariants.{Key}
 use Rattle.iso_desk.specs.declared.line.Party.{Party}
-use Rattle.iso_floor.specs.Desks.{AreMarksOf, CanEnterNone, IsAt, held_nodes}
+use Rattle.iso_desk.specs.declared.line.Party.TheVariants.{Everyone, Worker}
+use Rattle.iso_floor.specs.Desks.{AreClosed, AreMarksOf, AreOwners, CanEnterNone, IsAt, held_nodes}
 use Rattle.iso_floor.specs.KeyMarks.{is_excluded, is_taken}
+use Rattle.iso_floor.specs.Parties.{StandRightly}
+use Rattle.iso_floor.specs.Postings.{ArePosted}
 use Rattle.iso_floor.specs.Schedulers.{HasNothingIn, SchedulerView, Takes, WaitRightly, access_in}
 use Rattle.iso_isolation.specs.Refusals.{LockHeld, Refused, already_entered, earlier_sibling, first_of, lock_held, lowest_below, no_node, no_worker, not_owner_of_parent, parent_closed, stopped, worker_busy}
 use Rattle.iso_isolation.specs.States as States
@@ -24,6 +27,7 @@ use Rattle.iso_plan.specs.Conflicts.{is_in_the_way, lowest, lowest_in_the_way}
 use Rattle.iso_plan.specs.HeldNodes.{is_access, is_held, takes_in}
 use Rattle.iso_plan.specs.KeyTable.{keys}
 use Rattle.iso_plan.specs.Locks.{conflict, locks}
+use Rattle.iso_plan.specs.Paths.{IsTree}
 use Rattle.iso_plan.specs.RowView.{tree_of}
 use Rattle.iso_plan.specs.Tree.{Row}
 use Rattle.iso_plan.specs.declared.lock.Lock.{Lock}
@@ -31,6 +35,8 @@ use Rattle.iso_standing.specs.declared.event.Event.TheVariants.{Enter}
 use Rattle.iso_suites.specs.ScriptLanguage.{scripts}
 use Rattle.iso_floor.proofs.ComingLemmas.{at-refused}
 use Rattle.iso_floor.proofs.HintLemmas.{some-excluded}
+use Rattle.iso_floor.proofs.OwnerLemmas.{line-refused}
+use Rattle.iso_floor.proofs.PostingLemmas.{comes-later}
 use Rattle.iso_floor.proofs.TakenLemmas.{held-at}
 
 or-true : (x y : Bool) → x ≡ true → (x || y) ≡ true
@@ -140,11 +146,16 @@ refused-all b s w p marks right nothing n l of stands =
     refused-held b w n (some-excluded tree (held_nodes b) n (recursion_from_All (λ (k : Lock). k.key < length (keys tree)) (locks tree n) (locks-known tree n)) ∙ among)
 
 pub enter-none : (b : BookView) (s : SchedulerView) (w : ℕ) (is_over : Bool) (seen : Option ℕ) → AreMarksOf b s.keys → WaitRightly (tree_of b.plan) s.table.places
-    → ((n : ℕ) → IsAt b n (place_of s.table.places n)) → HasNothingIn s is_over w seen → CanEnterNone (record { book = b; scheduler = s }) w
-enter-none b s w is_over seen marks right places nothing =
+    → ((n : ℕ) → IsAt b n (place_of s.table.places n)) → AreOwners b s.owners → StandRightly b.plan s.owners s.table.places → AreClosed b s.table.places
+    → (0 < b.workers → ArePosted b.plan s.table.places) → IsTree (tree_of b.plan) → HasNothingIn s is_over w seen → CanEnterNone (record { book = b; scheduler = s }) w
+enter-none b s w is_over seen marks right places owners stands closed posted tree nothing =
+    let alone = refused-all b s w (Worker w) marks right nothing.alone in
+    let others = refused-all b s w Everyone marks right nothing.others in
     record {
       own = nothing.own;
-      alone = refused-all b s w _ marks right nothing.alone;
-      others = refused-all b s w _ marks right nothing.others;
+      alone = alone;
+      others = others;
+      elsewhere = λ n l in_line. line-refused b s w owners stands n l in_line nothing.own (alone n) (others n);
       entered = λ n e. at-refused b w n (place_of s.table.places n) e (places n);
+      closed = λ n e none. comes-later b s.table.places w n tree places closed posted e none;
     }

@@ -7,6 +7,8 @@ pub mod Grounds
 pub mod Halts
 pub mod KeyMarks
 pub mod Nexts
+pub mod Parties
+pub mod Postings
 pub mod Schedulers
 pub mod Seats
 pub mod Turning

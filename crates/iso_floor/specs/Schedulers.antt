@@ -4,10 +4,14 @@
 -- put or taken next (`put`, `next_taken`), the line in which a node waits (`waiting_line`), which
 -- node a worker attempts or shuts next, and that there is none (`IsNextNode`, `HasNone`); who has
 -- nothing to wake for (`HasNothingIn`); how many nodes are loose (`loose_in`); that each node in a
--- line of a key takes that key with the line's access (`Takes`, `WaitRightly`); which nodes have the
--- place of one that was entered (`is_entered`), and that a step gives that to none, or to one
--- (`KeepsPlaces`, `IsMoved`). No public clause cites it.
--- Also in: `Nexts`.
+-- line of a key takes that key with the line's access (`Takes`, `WaitRightly`); which nodes have
+-- the place of one that was entered (`is_entered`), and that a step gives that to none, or to one
+-- (`KeepsPlaces`, `IsMoved`); who has opened a class up (`owner_of`), and that each node in a line
+-- is the party's whose line it is (`IsOwned`, `BelongsTo`, `StandRightly`, `KeepsStands`), so that
+-- a worker may attempt it (`MayTry`); that a step makes no node Closed (`ClosesNone`), that each
+-- CONCURRENT child of an open class was posted (`IsPosted`, `ArePosted`), and that a node comes
+-- later (`ComesLater`). No public clause cites it.
+-- Also in: `Nexts`, `Parties`, `Postings`.
 use Rattle.std.specs.Prelude.{◌≡◌, ◌≢◌, ◌<◌, ◌==◌, ℕ, List, Option, None, Some, Bool, true, false, cond, is_some, length, not}
 use Rattle.iso_desk.specs.Crews.{HasNothing}
 use Rattle.iso_desk.specs.Places.{StandsIn, TableView, line_in, moved, place_of}
@@ -20,22 +24,25 @@ use Rattle.iso_desk.specs.declared.line.Party.TheVariants.{Everyone, Worker}
 use Rattle.iso_desk.specs.declared.place.Place.{Place}
 use Rattle.iso_desk.specs.declared.place.Place.TheVariants.{Closed, Loose, InLine, With, Open, Over}
 use Rattle.iso_floor.specs.KeyMarks.{KeysView}
+use Rattle.iso_floor.specs.Parties.{StandRightly}
 use Rattle.iso_model.specs.declared.access.Access.{Access}
 use Rattle.iso_model.specs.declared.access.Access.TheVariants.{Read, Write}
 use Rattle.iso_model.specs.declared.script.Mode.{Mode}
 use Rattle.iso_model.specs.declared.script.Mode.TheVariants.{Concurrent, SameThread}
 use Rattle.iso_plan.specs.HeldNodes.{count, takes_in}
 use Rattle.iso_plan.specs.Locks.{is_write, locks}
+use Rattle.iso_plan.specs.Planned.{Planned}
 use Rattle.iso_plan.specs.Tree.{Row}
 use Rattle.iso_plan.specs.declared.lock.Lock.{Lock}
 
--- the table, what is kept of each worker, which keys held nodes take, and how often nodes were
--- posted
+-- the table, what is kept of each worker, which keys held nodes take, how often nodes were posted,
+-- and by node the owner of a class that was opened up
 pub record SchedulerView : Type 0 where
   pub table : TableView
   pub members : List Member
   pub keys : KeysView
   pub rounds : ℕ
+  pub owners : List (Option ℕ)
 
 -- a scheduler is of `nodes` nodes and `workers` workers
 pub record IsFor (nodes workers : ℕ) (s : SchedulerView) : Type 0 where
@@ -59,10 +66,10 @@ loose_in places = count (λ n. is_loose (place_of places n)) (length places)
 abbrev pub put : ℕ → Place → TableView → TableView
 put n p t = cond (is_some (line_in (place_of t.places n))) t (moved n p t)
 
--- the node that is taken next leaves its line, if there is one
+-- the node that is taken next leaves its line for the hand of who takes it, if there is one
 abbrev pub next_taken : Option ℕ → TableView → TableView
 next_taken None t = t
-next_taken (Some n) t = moved n Closed t
+next_taken (Some n) t = moved n Loose t
 
 -- for whom a node is that waits: a CONCURRENT one for everyone, another one for its class's owner
 abbrev pub party_for : Mode → ℕ → Party
@@ -105,6 +112,11 @@ KeepsSizes old new = (nodes workers : ℕ) → IsFor nodes workers old → IsFor
 abbrev pub KeepsLines : (old new : SchedulerView) → Type 0
 KeepsLines old new = (tree : List Row) → WaitRightly tree old.table.places
     → WaitRightly tree new.table.places
+
+-- a step puts no node in a line that isn't its party's
+abbrev pub KeepsStands : (old new : SchedulerView) → Type 0
+KeepsStands old new = (p : Planned) → StandRightly p old.owners old.table.places
+    → StandRightly p new.owners new.table.places
 
 -- whether a place is one of a node that was entered: with a worker, open or over
 abbrev pub is_entered : Place → Bool

@@ -1,22 +1,23 @@
 //! What lies under the lock of a floor.
-ghost use Rattle.std.specs.Prelude.{◌≡◌, ◌<◌, ℕ, IfOk, IfSome, MatchResult, None, OnOk, length, not, true};
+ghost use Rattle.std.specs.Prelude.{◌≡◌, ◌<◌, ℕ, IfOk, IfSome, IsTrue, MatchResult, None, OnOk, length, not, true};
 ghost use Rattle.iso_book.specs.Books.{BookView};
 ghost use Rattle.iso_book.specs.Leaves.{IsLeft, IsNotLeft, MayBring, after_leave};
-ghost use Rattle.iso_book.specs.Progress.{phase_in};
 ghost use Rattle.iso_book.specs.Turns.{GoesOnWith, IsEntered, IsNotTaken, IsShut, IsTaken, MayEnterWith, ReadsStart};
 ghost use Rattle.iso_desk.specs.Crews.{awaits, member_of};
 ghost use Rattle.iso_floor.specs.Answering.{HasRun, has_changed};
-ghost use Rattle.iso_floor.specs.Desks.{CanEnterNone};
+ghost use Rattle.iso_floor.specs.Desks.{CanEnterNone, IsOpenFor};
 ghost use Rattle.iso_floor.specs.Grounds.{IsBookOf, IsTrayOf};
-ghost use Rattle.iso_floor.specs.Schedulers.{KeepsLines, KeepsPlaces, KeepsSizes};
+ghost use Rattle.iso_floor.specs.Parties.{MayTry};
+ghost use Rattle.iso_floor.specs.Postings.{ClosesNone, IsPosted};
+ghost use Rattle.iso_floor.specs.Schedulers.{KeepsLines, KeepsPlaces, KeepsSizes, KeepsStands};
 ghost use Rattle.iso_locks.specs.Trays.{is_lent};
 ghost use Rattle.iso_plan.specs.HeldNodes.{takes_in};
 ghost use Rattle.iso_plan.specs.Locks.{locks};
 ghost use Rattle.iso_standing.specs.CodeEvents.{refused_of};
-ghost use Rattle.iso_standing.specs.declared.phase.Phase.TheVariants.{Open};
 
 use crate::ground::Ground;
 use crate::hints::Hints;
+use crate::nodes::is_concurrent;
 use crate::posting::post_children;
 use crate::scheduler::Scheduler;
 use iso_book::book::Book;
@@ -111,6 +112,7 @@ impl<'a, G: Ground> Desk<'a, G> {
         ensures nobody { result.worker ≡ None → (w : ℕ) → w < length self.old.scheduler.members
             → awaits (member_of self.old.scheduler.members w) ≡ true → CanEnterNone self.old w }
     {
+        laws::nodes_are_a_tree(self.book.plan());
         let is_over = self.is_over();
         Wakes {
             watchers: self.watching > 0,
@@ -166,6 +168,7 @@ impl<'a, G: Ground> Desk<'a, G> {
         ensures book { self.new.book ≡ self.old.book }
         ensures nothing { worker < G.workers → result ≡ true → CanEnterNone self.old worker }
     {
+        laws::nodes_are_a_tree(self.book.plan());
         let is_over = self.is_over();
         self.scheduler.stays(worker, is_over)
     }
@@ -182,14 +185,20 @@ impl<'a, G: Ground> Desk<'a, G> {
         self.scheduler.take_opening(worker)
     }
 
-    /// Whether a node lies in a deque, or is in the hand of who took it there.
-    pub(crate) fn is_loose(&self, node: u32) -> bool {
-        self.scheduler.is_loose(node)
+    /// Whether a CONCURRENT node lies in a deque, or is in the hand of who took it there, so that
+    /// any worker may attempt it.
+    pub(crate) fn is_loose(&self, node: u32) -> bool
+        ensures { IsTrue result
+            → (w : ℕ) → MayTry G.plan self.now.scheduler.owners node w }
+    {
+        self.scheduler.is_loose(node) && is_concurrent(self.book.plan(), node)
     }
 
     /// The next node that waits for a worker, which leaves its line to be attempted or shut.
     pub(crate) fn next_for(&mut self, worker: u32) -> Option<u32>
-        ensures { self.new.book ≡ self.old.book }
+        ensures book { self.new.book ≡ self.old.book }
+        ensures node { IfSome result
+            (λ n. MayTry G.plan self.new.scheduler.owners n worker) }
     {
         self.scheduler.next_for(worker)
     }
@@ -231,21 +240,23 @@ impl<'a, G: Ground> Desk<'a, G> {
     /// A node waits for the key of one of its locks that is in its way, for a worker to attempt it
     /// later.
     pub(crate) fn wait_for(&mut self, node: u32, lock: Lock, worker: u32) -> Result<(), AllocError>
-        requires { takes_in lock.access lock.key (locks G.plan.rows node) ≡ true }
+        requires takes { takes_in lock.access lock.key (locks G.plan.rows node) ≡ true }
+        requires own { MayTry G.plan self.old.scheduler.owners node worker }
         ensures { self.new.book ≡ self.old.book }
     {
         self.scheduler
             .wait_for(self.book.plan(), node, lock, worker)
     }
 
-    /// Opens a class up that is open in the book, and posts what may run beside others in it.
+    /// Opens a class up for its owner, that is open in the book, and posts what may run beside
+    /// others in it.
     pub(crate) fn open_up(
         &mut self,
         class: u32,
         worker: u32,
         owner: &mut Owner,
     ) -> Result<(), AllocError>
-        requires { phase_in self.old.book class ≡ Open }
+        requires { IsOpenFor self.old.book class worker }
         ensures { self.new.book ≡ self.old.book }
     {
         let plan = self.book.plan();
@@ -392,6 +403,12 @@ fn post_root(
     ensures lines { KeepsLines scheduler.old scheduler.new }
     ensures places { KeepsPlaces scheduler.old scheduler.new }
     ensures keys { scheduler.new.keys ≡ scheduler.old.keys }
+    ensures owners { scheduler.new.owners ≡ scheduler.old.owners }
+    ensures stands { KeepsStands scheduler.old scheduler.new }
+    ensures closes { ClosesNone scheduler.old.table.places scheduler.new.table.places }
+    ensures posted { OnOk result (0 < length seats.old.items → 0 < length plan.now.rows
+        → length scheduler.old.table.places ≡ length plan.now.rows
+        → IsPosted plan.now 0 scheduler.new.table.places) }
 {
     match seats.first_mut() {
         Some(first) => post_children(scheduler, plan, 0, &mut first.owner),

@@ -1,7 +1,8 @@
 //! The nodes of a plan, by any numbers.
-ghost use Rattle.std.specs.Prelude.{◌≡◌, ◌<◌, false, length, true};
+ghost use Rattle.std.specs.Prelude.{◌≡◌, ◌<◌, ◌≤◌, [], false, length, true};
 ghost use Rattle.iso_model.specs.declared.script.Mode.TheVariants.{Concurrent, SameThread};
 ghost use Rattle.iso_plan.specs.Modes.{mode};
+ghost use Rattle.iso_plan.specs.Paths.{children};
 ghost use Rattle.iso_plan.specs.RowView.{tree_of};
 
 use iso_model::script::Mode;
@@ -23,7 +24,11 @@ pub(crate) fn is_concurrent(plan: &Plan, node: u32) -> bool
 }
 
 /// The children of a class.
-pub(crate) fn children_of(plan: &Plan, class: u32) -> &[u32] {
+pub(crate) fn children_of(plan: &Plan, class: u32) -> &[u32]
+    ensures children { class < length plan.now.rows
+        → result.now ≡ children (tree_of plan.now) class }
+    ensures past { length plan.now.rows ≤ class → result.now ≡ [] }
+{
     if class < plan.len() {
         plan.children(class)
     } else {

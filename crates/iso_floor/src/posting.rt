@@ -1,6 +1,7 @@
 //! What goes into the deques: what may run beside others, once its class is open.
-ghost use Rattle.std.specs.Prelude.{◌≡◌};
-ghost use Rattle.iso_floor.specs.Schedulers.{KeepsLines, KeepsPlaces, KeepsSizes};
+ghost use Rattle.std.specs.Prelude.{◌≡◌, ◌<◌, OnOk, length};
+ghost use Rattle.iso_floor.specs.Postings.{ClosesNone, IsPosted};
+ghost use Rattle.iso_floor.specs.Schedulers.{KeepsLines, KeepsPlaces, KeepsSizes, KeepsStands};
 
 use crate::nodes::{children_of, is_concurrent};
 use crate::scheduler::Scheduler;
@@ -19,6 +20,12 @@ pub(crate) fn post_children(
     ensures lines { KeepsLines scheduler.old scheduler.new }
     ensures places { KeepsPlaces scheduler.old scheduler.new }
     ensures keys { scheduler.new.keys ≡ scheduler.old.keys }
+    ensures owners { scheduler.new.owners ≡ scheduler.old.owners }
+    ensures stands { KeepsStands scheduler.old scheduler.new }
+    ensures closes { ClosesNone scheduler.old.table.places scheduler.new.table.places }
+    ensures posted { OnOk result (class < length plan.now.rows
+        → length scheduler.old.table.places ≡ length plan.now.rows
+        → IsPosted plan.now class scheduler.new.table.places) }
 {
     let mut posted = false;
     'children: for child in children_of(plan, class) {

@@ -8,8 +8,9 @@
 //!    SAME_THREAD child stands in worker 0's own line.
 //! 4. A key is in a node's way where a held node takes it, one of the two for READ_WRITE. Which key
 //!    that is follows from the book's counts alone, and is stored nowhere.
-//! 5. A node is attempted: where no key is in its way, it is entered. Else it stands at the end of
-//!    a line of that key: it waits for the key, and behind no node.
+//! 5. A node that was taken out of a deque or a line is in a hand. It is attempted: where no key is
+//!    in its way, it is entered. Else it stands at the end of a line of that key: it waits for the
+//!    key, and behind no node.
 //! 6. A node that waits is on offer where its key isn't in its way any more. No call makes it so.
 //! 7. A turn answers first that the run was stopped, or is over. Then, until an event is taken: a
 //!    class that this worker has just opened is shut, or opened up where a child is left; the node
@@ -24,21 +25,26 @@
 //!     of everyone's is on offer, and no node lies in a deque, as far as it has seen.
 //! 11. Every turn, Leave and stop ends with a call, a Leave and the turn in the same hold of the
 //!     lock with one: one worker that waits, wasn't called, and has something to wake for.
-ghost use Rattle.std.specs.Prelude.{◌≡◌, ◌≢◌, ◌<◌, ◌≤◌, ◌+◌, ◌^◌, ◌==◌, ℕ, List, [], IfOk, IfSome, IsTrue, MatchOption, None, OnErr, OnOk, cond, false, length, not, true};
+ghost use Rattle.std.specs.Prelude.{◌≡◌, ◌≢◌, ◌<◌, ◌≤◌, ◌+◌, ◌^◌, ◌==◌, ℕ, List, [], IfOk, IfSome, IsTrue, MatchOption, None, OnErr, OnOk, Some, cond, false, length, not, slice_set, true};
 ghost use Rattle.std.specs.Bool.{Decides};
 ghost use Rattle.iso_desk.specs.Crews.{awaits, called, looking, member_of, waiting};
 ghost use Rattle.iso_desk.specs.Lines.{IsLineOf};
 ghost use Rattle.iso_desk.specs.Marking.{has, room};
 ghost use Rattle.iso_desk.specs.Places.{headed, line_in, lined_up, place_of};
-ghost use Rattle.iso_desk.specs.declared.place.Place.TheVariants.{Loose, Open, Over, With};
+ghost use Rattle.iso_desk.specs.declared.place.Place.TheVariants.{Closed, Loose, Open, Over, With};
 ghost use Rattle.iso_floor.specs.KeyMarks.{AreRenewed};
 ghost use Rattle.iso_floor.specs.Nexts.{HasNone, IsNextNode};
-ghost use Rattle.iso_floor.specs.Schedulers.{HasNothingIn, IsFor, IsFree, IsMoved, KeepsLines, KeepsPlaces, KeepsSizes, WaitRightly, is_entered, is_loose, loose_in, next_taken, put, waiting_line};
+ghost use Rattle.iso_floor.specs.Schedulers.{HasNothingIn, IsFor, IsFree, IsMoved, KeepsLines, KeepsPlaces, KeepsSizes, KeepsStands, WaitRightly, is_entered, is_loose, loose_in, next_taken, put, waiting_line};
+ghost use Rattle.iso_floor.specs.Parties.{IsOwned, MayTry, StandRightly, owner_of};
+ghost use Rattle.iso_floor.specs.Postings.{ClosesNone};
 ghost use Rattle.iso_lifecycle.specs.declared.kind.BodyKind.TheVariants.{BeforeAll};
+ghost use Rattle.iso_model.specs.declared.script.Mode.TheVariants.{SameThread};
 ghost use Rattle.iso_plan.specs.HeldNodes.{takes_in};
 ghost use Rattle.iso_plan.specs.KeyTable.{keys};
 ghost use Rattle.iso_plan.specs.Locks.{locks};
 ghost use Rattle.iso_plan.specs.Modes.{mode};
+ghost use Rattle.iso_plan.specs.Paths.{parent};
+ghost use Rattle.iso_plan.specs.Planned.{Planned};
 ghost use Rattle.iso_plan.specs.RowView.{tree_of};
 ghost use Rattle.iso_plan.specs.Tree.{Row};
 
@@ -62,11 +68,10 @@ use std::marker::Model;
 /// The worker that owns the root.
 const FIRST_WORKER: u32 = 0;
 
-/// What is kept of a class beside its place: its owner once it was opened up, how many of its
-/// children aren't over, and how many were looked at for the next that its owner alone may enter.
+/// What is kept of a class beside its place: how many of its children aren't over, and how many
+/// were looked at for the next that its owner alone may enter.
 #[derive(Clone, Copy)]
 struct Class {
-    owner: u32,
     left: usize,
     passed: usize,
 }
@@ -79,6 +84,8 @@ pub(crate) struct Scheduler {
     keys: HeldKeys,
     /// By node.
     classes: Vec<Class>,
+    /// By node, of a class that was opened up, its owner.
+    owners: Vec<Option<u32>>,
     /// By node, whether it is a class that was entered in a turn, to be left open.
     shared: Vec<bool>,
     /// By worker, the class that it has just opened.
@@ -102,6 +109,7 @@ impl Model for Scheduler {
       members = s.crew.members.items;
       keys = s.keys;
       rounds = s.rounds;
+      owners = s.owners.items;
     } };
 
     ghost invariant = { λ s. record {
@@ -119,6 +127,11 @@ impl Scheduler {
         ensures written { IfOk result (λ s. (k : ℕ) → has s.keys.written k ≡ false) }
         ensures lines { IfOk result (λ s. (tree : List Row) → WaitRightly tree s.table.places) }
         ensures places { IfOk result (λ s. IsMoved 0 Open [] s.table.places) }
+        ensures stands { IfOk result (λ s. StandRightly plan.now s.owners s.table.places) }
+        ensures owners { IfOk result (λ s. (n v : ℕ) → owner_of s.owners n ≡ Some v
+            → (n ≡ 0) × (v ≡ 0)) }
+        ensures root { IfOk result (λ s. 0 < length plan.now.rows
+            → place_of s.table.places 0 ≢ Closed) }
     {
         let mut scheduler = Scheduler::closed(alloc, plan, workers)?;
         scheduler.open(plan, 0, FIRST_WORKER)?;
@@ -133,6 +146,9 @@ impl Scheduler {
         ensures lines { IfOk result (λ s. (tree : List Row) → WaitRightly tree s.table.places) }
         ensures places { IfOk result (λ s. (n : ℕ) → is_entered (place_of s.table.places n)
             ≡ false) }
+        ensures stands { IfOk result (λ s. (p : Planned)
+            → StandRightly p s.owners s.table.places) }
+        ensures owners { IfOk result (λ s. (n : ℕ) → owner_of s.owners n ≡ None) }
     {
         let nodes = plan.len() as usize;
         Ok(Scheduler {
@@ -140,6 +156,7 @@ impl Scheduler {
             crew: Crew::new(alloc, workers)?,
             keys: HeldKeys::new(alloc)?,
             classes: classes_of(alloc, plan)?,
+            owners: vec![in alloc; None; nodes]?,
             shared: vec![in alloc; false; nodes]?,
             opening: vec![in alloc; None; workers as usize]?,
             loose: 0,
@@ -163,11 +180,20 @@ impl Scheduler {
     /// Opens a class up for its owner: its next SAME_THREAD child is the owner's. Out of memory is
     /// answered only after 2^63 nodes were put in lines.
     pub(crate) fn open(&mut self, plan: &Plan, class: u32, owner: u32) -> Result<(), AllocError>
-        ensures rest { self.new ≡ record self.old { table = self.new.table } }
+        ensures rest { self.new ≡ record self.old {
+          table = self.new.table;
+          owners = slice_set self.old.owners class (Some owner);
+        } }
         ensures sizes { KeepsSizes self.old self.new }
         ensures lines { KeepsLines self.old self.new }
         ensures places { IsMoved class Open self.old.table.places
             self.new.table.places }
+        ensures stands { ((v : ℕ) → owner_of self.old.owners class ≡ Some v → v ≡ owner)
+            → StandRightly plan.now self.old.owners self.old.table.places
+            → StandRightly plan.now self.new.owners self.new.table.places }
+        ensures closes { ClosesNone self.old.table.places self.new.table.places }
+        ensures opened { class < length self.old.table.places
+            → place_of self.new.table.places class ≢ Closed }
     {
         self.own(class, owner);
         self.put(class, Place::Open);
@@ -180,6 +206,7 @@ impl Scheduler {
         ensures sizes { KeepsSizes self.old self.new }
         ensures lines { KeepsLines self.old self.new }
         ensures places { KeepsPlaces self.old self.new }
+        ensures stands { KeepsStands self.old self.new }
     {
         self.put(node, Place::Loose);
     }
@@ -193,7 +220,7 @@ impl Scheduler {
         self.rounds = self.rounds.saturating_add(1);
     }
 
-    /// Whether a node lies in a deque, or is in the hand of who took it there.
+    /// Whether a node lies in a deque, or is in the hand of who took it there or out of a line.
     pub(crate) fn is_loose(&self, node: u32) -> bool
         ensures { result ≡ is_loose (place_of self.now.table.places node) }
     {
@@ -221,12 +248,13 @@ impl Scheduler {
         }
     }
 
-    /// The next node that waits for a worker, which leaves its line to be attempted or shut: the
-    /// first of the worker's own line, else of one on offer.
+    /// The next node that waits for a worker, which leaves its line to be attempted or shut, and is
+    /// in the worker's hand until then: the first of the worker's own line, else of one on offer.
     pub(crate) fn next_for(&mut self, worker: u32) -> Option<u32>
         ensures node { worker < self.old.table.workers
             → MatchOption result (HasNone self.old.table.places self.old.keys worker)
             (IsNextNode self.old.table.places self.old.keys worker) }
+        ensures known { IfSome result (λ _. worker < self.old.table.workers) }
         ensures left { self.new ≡ record self.old { table = next_taken result self.old.table } }
         ensures sizes { KeepsSizes self.old self.new }
         ensures lines { KeepsLines self.old self.new }
@@ -237,7 +265,9 @@ impl Scheduler {
         }
         let line = line_for(&self.table, &self.keys, worker)?;
         let node = self.table.first(line)?;
-        self.table.leave(node, line, Place::Closed);
+        let _nodes = self.table.nodes();
+        self.loose = recounted(self.loose, false, true);
+        self.table.leave(node, line, Place::Loose);
         self.lined = self.lined.saturating_sub(1);
         Some(node)
     }
@@ -261,6 +291,10 @@ impl Scheduler {
         ensures lines { (tree : List Row) → takes_in lock.access lock.key (locks tree node) ≡ true
             → WaitRightly tree self.old.table.places → WaitRightly tree self.new.table.places }
         ensures places { KeepsPlaces self.old self.new }
+        ensures stands { MayTry plan.now self.old.owners node worker
+            → StandRightly plan.now self.old.owners self.old.table.places
+            → StandRightly plan.now self.new.owners self.new.table.places }
+        ensures closes { ClosesNone self.old.table.places self.new.table.places }
     {
         let party = if is_concurrent(plan, node) {
             Party::Everyone
@@ -326,6 +360,10 @@ impl Scheduler {
         ensures lines { KeepsLines self.old self.new }
         ensures places { kind ≢ BeforeAll → IsMoved node Over self.old.table.places
             self.new.table.places }
+        ensures owners { self.new.owners ≡ self.old.owners }
+        ensures stands { StandRightly plan.now self.old.owners self.old.table.places
+            → StandRightly plan.now self.new.owners self.new.table.places }
+        ensures closes { ClosesNone self.old.table.places self.new.table.places }
     {
         match kind {
             BodyKind::BeforeAll => {
@@ -361,6 +399,9 @@ impl Scheduler {
         ensures lines { KeepsLines self.old self.new }
         ensures places { IsMoved node Over self.old.table.places
             self.new.table.places }
+        ensures stands { StandRightly plan.now self.old.owners self.old.table.places
+            → StandRightly plan.now self.new.owners self.new.table.places }
+        ensures closes { ClosesNone self.old.table.places self.new.table.places }
     {
         let class = parent_of(plan, node);
         self.end(plan, held, node, class);
@@ -378,6 +419,8 @@ impl Scheduler {
         ensures lines { KeepsLines self.old self.new }
         ensures places { IsMoved node Over self.old.table.places
             self.new.table.places }
+        ensures stands { KeepsStands self.old self.new }
+        ensures closes { ClosesNone self.old.table.places self.new.table.places }
     {
         self.put(node, Place::Over);
         self.renew(plan, held, node);
@@ -391,6 +434,9 @@ impl Scheduler {
         ensures sizes { KeepsSizes self.old self.new }
         ensures lines { KeepsLines self.old self.new }
         ensures places { KeepsPlaces self.old self.new }
+        ensures stands { StandRightly plan.now self.old.owners self.old.table.places
+            → StandRightly plan.now self.new.owners self.new.table.places }
+        ensures closes { ClosesNone self.old.table.places self.new.table.places }
     {
         if self.place(class) != Place::Open {
             return Ok(());
@@ -534,6 +580,7 @@ impl Scheduler {
         ensures lines { KeepsLines self.old self.new }
         ensures places { IsMoved node place self.old.table.places
             self.new.table.places }
+        ensures stands { KeepsStands self.old self.new }
     {
         if self.is_free(node) {
             let was = is_loose(self.table.place(node));
@@ -590,10 +637,24 @@ impl Scheduler {
 
     /// A worker owns a class from now on.
     fn own(&mut self, class: u32, owner: u32)
-        ensures { self.new ≡ self.old }
+        ensures { self.new ≡ record self.old {
+          owners = slice_set self.old.owners class (Some owner);
+        } }
     {
-        if let Some(kept) = self.classes.get_mut(class as usize) {
-            kept.owner = owner;
+        if let Some(kept) = self.owners.get_mut(class as usize) {
+            *kept = Some(owner);
+        }
+    }
+
+    /// The owner of a class that was opened up.
+    fn owner(&self, class: u32) -> Option<u32>
+        ensures { result ≡ owner_of self.now.owners class }
+    {
+        let class = class as usize;
+        if class < self.owners.len() {
+            self.owners[class]
+        } else {
+            None
         }
     }
 
@@ -620,6 +681,9 @@ impl Scheduler {
         ensures sizes { KeepsSizes self.old self.new }
         ensures lines { KeepsLines self.old self.new }
         ensures places { KeepsPlaces self.old self.new }
+        ensures stands { StandRightly plan.now self.old.owners self.old.table.places
+            → StandRightly plan.now self.new.owners self.new.table.places }
+        ensures closes { ClosesNone self.old.table.places self.new.table.places }
     {
         match self.next_child(plan, class) {
             Some(child) => self.give_to_owner(class, child),
@@ -629,7 +693,10 @@ impl Scheduler {
 
     /// The next child of a class that its owner alone may enter, if there is one.
     fn next_child(&mut self, plan: &Plan, class: u32) -> Option<u32>
-        ensures { self.new ≡ self.old }
+        ensures rest { self.new ≡ self.old }
+        ensures child { IfSome result (λ n.
+            (mode (tree_of plan.now) plan.now.settings n ≡ SameThread)
+            × (parent (tree_of plan.now) n ≡ class)) }
     {
         let kept = self.classes.get_mut(class as usize)?;
         let children = children_of(plan, class);
@@ -648,11 +715,15 @@ impl Scheduler {
         ensures sizes { KeepsSizes self.old self.new }
         ensures lines { KeepsLines self.old self.new }
         ensures places { KeepsPlaces self.old self.new }
+        ensures stands { (p : Planned) → ((v : ℕ) → owner_of self.old.owners class ≡ Some v
+            → IsOwned p self.old.owners node v)
+            → StandRightly p self.old.owners self.old.table.places
+            → StandRightly p self.new.owners self.new.table.places }
+        ensures closes { ClosesNone self.old.table.places self.new.table.places }
     {
-        let Some(kept) = self.classes.get(class as usize) else {
+        let Some(owner) = self.owner(class) else {
             return Ok(())
         };
-        let owner = kept.owner;
         if owner >= self.table.workers() || !self.is_free(node) {
             return Ok(());
         }
@@ -665,7 +736,6 @@ fn classes_of(alloc: Global, plan: &Plan) -> Result<Vec<Class>, AllocError> {
     let mut classes = Vec::with_capacity(alloc, plan.len() as usize)?;
     for node in 0..plan.len() {
         classes.push(Class {
-            owner: FIRST_WORKER,
             left: plan.children(node).len(),
             passed: 0,
         })?;

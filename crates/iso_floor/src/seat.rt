@@ -1,14 +1,13 @@
 //! A worker's place on a floor.
 ghost use Rattle.std.specs.Prelude.{◌≡◌, ◌<◌, ℕ, IfErr, IfOk, None, OnErr, OnOk, length, true};
 ghost use Rattle.iso_book.specs.Leaves.{MayBring, ReceiptView};
-ghost use Rattle.iso_book.specs.Progress.{phase_in};
 ghost use Rattle.iso_book.specs.Turns.{IsEntered, IsShut, ReadsStart};
 ghost use Rattle.iso_floor.specs.Answering.{HasRoom, IsFull, OfSomeBook, RefusesEnter, RefusesLeave, RefusesShut, TakesEnter, TakesLeave, TakesShut};
 ghost use Rattle.iso_floor.specs.Closing.{IsPlaceFault};
+ghost use Rattle.iso_floor.specs.Desks.{IsOpenFor};
 ghost use Rattle.iso_floor.specs.Grounds.{IsTrayOf};
 ghost use Rattle.iso_floor.specs.Seats.{HasLeft, SeatView, new_seat};
 ghost use Rattle.iso_locks.specs.Trays.{CanUndo, is_lent, marked, undone};
-ghost use Rattle.iso_standing.specs.declared.phase.Phase.TheVariants.{Open};
 
 use crate::desk::Desk;
 use crate::fault::SeatFault;
@@ -190,7 +189,7 @@ impl<'a, G: Ground> Seat<'a, G> {
         ensures seat { self.new ≡ record self.old { tray = self.new.tray } }
         ensures same { OnErr result (self.new ≡ self.old) }
         ensures open { IfErr result (λ fault. fault ≡ CoreFault.Refused Refused.ChildrenLeft
-            → phase_in desk.new.book node ≡ Open) }
+            → IsOpenFor desk.new.book node self.new.worker) }
     {
         desk.keep_run();
         desk.shut(self.worker, node, &mut self.tray)

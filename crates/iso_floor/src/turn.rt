@@ -1,9 +1,9 @@
 //! What a worker finds to do.
 ghost use Rattle.std.specs.Prelude.{◌≡◌, IfOk, MatchOption, OnOk};
 ghost use Rattle.iso_book.specs.Leaves.{MayBring, after_leave};
-ghost use Rattle.iso_book.specs.Progress.{phase_in};
+ghost use Rattle.iso_floor.specs.Desks.{IsOpenFor};
+ghost use Rattle.iso_floor.specs.Parties.{MayTry};
 ghost use Rattle.iso_floor.specs.Turning.{IsNextTurn, IsTurn};
-ghost use Rattle.iso_standing.specs.declared.phase.Phase.TheVariants.{Open};
 
 use crate::desk::Desk;
 use crate::ground::Ground;
@@ -115,6 +115,7 @@ impl<'a, G: Ground> Seat<'a, G> {
 
     // Attempts a node that waited, or shuts a class whose children are over.
     fn try_at(&mut self, desk: &mut Desk<'a, G>, node: u32) -> Option<Turn>
+        requires { MayTry G.plan desk.old.scheduler.owners node self.old.worker }
         ensures { MatchOption result (self.new ≡ self.old) (λ turn. IsTurn turn self.old self.new) }
     {
         if desk.is_shared(node) {
@@ -126,6 +127,7 @@ impl<'a, G: Ground> Seat<'a, G> {
 
     // Enters a node, unless a key is in its way: then it waits for that key.
     fn attempt(&mut self, desk: &mut Desk<'a, G>, node: u32) -> Option<Turn>
+        requires { MayTry G.plan desk.old.scheduler.owners node self.old.worker }
         ensures { MatchOption result (self.new ≡ self.old) (λ turn. IsTurn turn self.old self.new) }
     {
         let Some(lock) = desk.lock_in_the_way(node) else {
@@ -174,7 +176,7 @@ impl<'a, G: Ground> Seat<'a, G> {
 
     // Opens a class up to the other workers, whose children aren't done.
     fn open_up(&mut self, desk: &mut Desk<'a, G>, class: u32) -> Option<Turn>
-        requires { phase_in desk.old.book class ≡ Open }
+        requires { IsOpenFor desk.old.book class self.old.worker }
         ensures { MatchOption result (self.new ≡ self.old) (λ turn. IsTurn turn self.old self.new) }
     {
         let worker = self.worker();

@@ -15,6 +15,6 @@ invariant_of-self-2 g c =
           desk-entered g.G.Ground.plan g.G.Ground.start g.G.Ground.workers i.book c.enter_own.new.self (Enter c.args.worker n) entered.event.book c.plan.result.now c.nodes_are_a_tree.ensures
           c.plan.ensures
           i.scheduler c.enter.new.self c.args.worker n c.plan-2.result.now c.held.result.now.held entered.held c.plan-2.ensures c.held.ensures.held step.keys step.past step.sizes step.lines
-          entered.progress (ap (λ (x : SchedulerView). x.table) step.place) c.self.invariant.desk;
+          entered.progress entered.event.is_allowed.allowed (ap (λ (x : SchedulerView). x.table) step.place) (ap (λ (x : SchedulerView). x.owners) step.place) c.self.invariant.desk;
       seats = c.self.invariant.seats;
     }

@@ -21,7 +21,7 @@ invariant_of-self-then-is_err g c =
     let is : IsDesk g.G.Ground.plan g.G.Ground.start g.G.Ground.workers a c.leave-left.new.self =
     desk-left g.G.Ground.plan g.G.Ground.start g.G.Ground.workers i.book c.leave_own.new.self (Leave c.args.worker) left.event.book c.plan.result.now c.nodes_are_a_tree.ensures c.plan.ensures
     i.scheduler c.leave-left.new.self c.kind-kind.result c.node-node.result c.plan-2.result.now c.held.result.now.held held c.plan-2.ensures c.held.ensures.held step.stays step.keys step.past
-    step.sizes step.lines progress step.places c.self.invariant.desk in
+    step.sizes step.lines progress step.places step.owners step.stands step.closes c.self.invariant.desk in
     record { desk = desk-stopped g.G.Ground.plan g.G.Ground.start g.G.Ground.workers a c.stop.new.self c.leave-left.new.self c.stop.ensures is; seats = c.self.invariant.seats }
 
 pub invariant_of-self-else-is_err : goal.invariant_of-self-else-is_err
@@ -38,7 +38,7 @@ invariant_of-self-else-is_err g c =
     let is : IsDesk g.G.Ground.plan g.G.Ground.start g.G.Ground.workers a c.leave-left.new.self =
     desk-left g.G.Ground.plan g.G.Ground.start g.G.Ground.workers i.book c.leave_own.new.self (Leave c.args.worker) left.event.book c.plan.result.now c.nodes_are_a_tree.ensures c.plan.ensures
     i.scheduler c.leave-left.new.self c.kind-kind.result c.node-node.result c.plan-2.result.now c.held.result.now.held held c.plan-2.ensures c.held.ensures.held step.stays step.keys step.past
-    step.sizes step.lines progress step.places c.self.invariant.desk in
+    step.sizes step.lines progress step.places step.owners step.stands step.closes c.self.invariant.desk in
     record { desk = is; seats = c.self.invariant.seats }
 
 pub returns-clause-event : goal.returns-clause-event

@@ -1,8 +1,9 @@
-use Rattle.std.proofs.Common.{rules, ap, length, subst, sym, ◌∙◌}
+use Rattle.std.proofs.Common.{rules, ◌<◌, ap, length, List, Option, ℕ, subst, sym, ◌∙◌}
 use Rattle.iso_desk.specs.Marking.{has}
 use Rattle.iso_desk.specs.declared.place.Place.TheVariants.{Open}
 use Rattle.iso_floor.specs.Desks.{IsDesk}
 use Rattle.iso_floor.specs.KeyMarks.{KeysView}
+use Rattle.iso_floor.specs.Parties.{owner_of}
 use Rattle.iso_floor.specs.Schedulers.{SchedulerView}
 use Rattle.iso_floor.proofs.DeskLemmas.{desk-new}
 use Rattle.iso_floor.proofs.PlaceLemmas.{moved-kept}
@@ -14,6 +15,7 @@ invariant_of-result-2 g c =
     let new = c.in_ok-scheduler.ensures in
     let posted = c.post_root.ensures in
     let b = c.in_ok-new.field-0 in
+    let tree = c.nodes_are_a_tree.ensures in
     record {
       desk =
           subst (λ (s : SchedulerView). IsDesk g.G.Ground.plan g.G.Ground.start g.G.Ground.workers b s) (sym c.scheduler.view_is)
@@ -21,6 +23,9 @@ invariant_of-result-2 g c =
           c.in_ok-new.ensures c.nodes_are_a_tree.ensures
           (posted.sizes (length p.rows) c.args.workers new.sizes) (λ k. ap (λ (v : KeysView). has v.held k) posted.keys ∙ new.held k)
           (λ k. ap (λ (v : KeysView). has v.written k) posted.keys ∙ new.written k)
-          (posted.lines p.rows (new.lines p.rows)) (moved-kept _ _ _ 0 Open new.places posted.places));
+          (posted.lines p.rows (new.lines p.rows)) (moved-kept _ _ _ 0 Open new.places posted.places)
+          (posted.stands p new.stands) (λ m w e. new.owners m w (ap (λ (os : List (Option ℕ)). owner_of os m) (sym posted.owners) ∙ e))
+          (λ e. new.root tree.rooted (posted.closes 0 e))
+          (λ some. c.in_ok-post_root.ensures.posted (subst (λ (k : ℕ). 0 < k) (sym c.in_ok-seats.ensures.number) some) tree.rooted new.sizes.nodes_are));
       seats = search rules;
     }

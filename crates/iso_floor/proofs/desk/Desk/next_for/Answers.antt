@@ -1,4 +1,11 @@
+use Rattle.std.proofs.Common.{ℕ, List, Option, IfSome, ap, subst, sym}
+use Rattle.iso_floor.specs.Nexts.{IsNextNode}
+use Rattle.iso_floor.specs.Parties.{MayTry}
+use Rattle.iso_floor.specs.Postings.{ClosesNone}
+use Rattle.iso_floor.specs.Schedulers.{SchedulerView}
 use Rattle.iso_floor.proofs.DeskLemmas.{desk-table}
+use Rattle.iso_floor.proofs.PartyLemmas.{may-some, next-some, stand-next}
+use Rattle.iso_floor.proofs.PostingLemmas.{closes-taken}
 use Rattle.iso_floor.proofs.desk.Desk.next_for.Goals as goal
 
 pub invariant_of-self : goal.invariant_of-self
@@ -6,6 +13,19 @@ invariant_of-self g c =
     let i = c.self.inside in
     record {
       desk = desk-table g.G.Ground.plan g.G.Ground.start g.G.Ground.workers i.book i.scheduler c.next_for.new.self c.next_for.ensures.left c.next_for.ensures.sizes
-          (c.next_for.ensures.lines g.G.Ground.plan.rows) c.next_for.ensures.places c.self.invariant.desk;
+          (c.next_for.ensures.lines g.G.Ground.plan.rows) c.next_for.ensures.places
+          (stand-next g.G.Ground.plan i.scheduler c.next_for.new.self c.next_for.result c.next_for.ensures.left)
+          (subst (λ (s : SchedulerView). ClosesNone i.scheduler.table.places s.table.places) (sym c.next_for.ensures.left) (closes-taken i.scheduler.table c.next_for.result))
+          c.self.invariant.desk;
       seats = c.self.invariant.seats;
     }
+
+pub returns-clause-node : goal.returns-clause-node
+returns-clause-node g c =
+    let i = c.self.inside in
+    let d = c.self.invariant.desk in
+    let next = c.next_for in
+    let w : ℕ = c.args.worker in
+    let found = next-some next.result w i.scheduler.table.workers _ (IsNextNode i.scheduler.table.places i.scheduler.keys w) next.ensures.known next.ensures.node in
+    subst (λ (os : List (Option ℕ)). IfSome next.result (λ n. MayTry g.G.Ground.plan os n w)) (sym (ap (λ (s : SchedulerView). s.owners) next.ensures.left))
+    (may-some next.result g.G.Ground.plan i.scheduler w d.scheduler.nodes_are d.stands found)

@@ -14,6 +14,6 @@ invariant_of-self-2 g c =
           desk-shut g.G.Ground.plan g.G.Ground.start g.G.Ground.workers i.book c.shut_own.new.self (Shut c.args.worker c.args.class) shut.event.book c.plan.result.now
           c.nodes_are_a_tree.ensures c.plan.ensures
           i.scheduler c.shut.new.self c.args.worker c.args.class shut.held (ap (λ (x : SchedulerView). x.keys) step.step) step.sizes step.lines shut.progress
-          (ap (λ (x : SchedulerView). x.table) step.step) c.self.invariant.desk;
+          shut.event.is_allowed.allowed (ap (λ (x : SchedulerView). x.table) step.step) (ap (λ (x : SchedulerView). x.owners) step.step) c.self.invariant.desk;
       seats = c.self.invariant.seats;
     }

@@ -16,5 +16,5 @@ returns-clause-nothing g c =
     let d = c.self.invariant.desk in
     let w : ℕ = c.args.worker in
     rw (← c.self.view_is) (λ below yes.
-    desk-none g.G.Ground.plan g.G.Ground.start g.G.Ground.workers i.book i.scheduler w c.is_over-is_over.result _ d
+    desk-none g.G.Ground.plan g.G.Ground.start g.G.Ground.workers i.book i.scheduler w c.is_over-is_over.result _ c.plan.result.now c.nodes_are_a_tree.ensures c.plan.ensures d
     ((c.stays.ensures.nothing (subst (λ (n : ℕ). w < n) (sym d.scheduler.workers_are) below)).0 yes))

@@ -1,11 +1,22 @@
+use Rattle.std.proofs.Common.{◌≡◌, ◌∙◌, subst, sym}
+use Rattle.iso_floor.specs.Desks.{DeskView}
+use Rattle.iso_floor.specs.Parties.{MayTry, StandRightly}
+use Rattle.iso_plan.specs.Planned.{Planned}
 use Rattle.iso_floor.proofs.DeskLemmas.{desk-table}
 use Rattle.iso_floor.proofs.desk.Desk.wait_for.Goals as goal
 
 pub invariant_of-self : goal.invariant_of-self
 invariant_of-self g c =
     let i = c.self.inside in
+    let n = c.args.node in
+    let new = c.wait_for.new.self in
+    let is : c.plan.result.now ≡ g.G.Ground.plan = c.plan.ensures ∙ c.self.invariant.desk.book.plan_is in
+    let may : MayTry g.G.Ground.plan i.scheduler.owners n c.args.worker = subst (λ (d : DeskView). MayTry g.G.Ground.plan d.scheduler.owners n c.args.worker) (sym c.self.view_is) c.requires.own in
+    let stands : StandRightly g.G.Ground.plan i.scheduler.owners i.scheduler.table.places → StandRightly g.G.Ground.plan new.owners new.table.places =
+    subst (λ (x : Planned). MayTry x i.scheduler.owners n c.args.worker → StandRightly x i.scheduler.owners i.scheduler.table.places → StandRightly x new.owners new.table.places) is
+    c.wait_for.ensures.stands may in
     record {
       desk = desk-table g.G.Ground.plan g.G.Ground.start g.G.Ground.workers i.book i.scheduler c.wait_for.new.self c.wait_for.ensures.rest c.wait_for.ensures.sizes
-          (c.wait_for.ensures.lines g.G.Ground.plan.rows c.requires) c.wait_for.ensures.places c.self.invariant.desk;
+          (c.wait_for.ensures.lines g.G.Ground.plan.rows c.requires.takes) c.wait_for.ensures.places stands c.wait_for.ensures.closes c.self.invariant.desk;
       seats = c.self.invariant.seats;
     }

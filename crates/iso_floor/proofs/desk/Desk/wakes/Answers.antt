@@ -13,5 +13,5 @@ pub returns-clause-nobody : goal.returns-clause-nobody
 returns-clause-nobody g c =
     let i = c.self.inside in
     rw (← c.self.view_is) (λ none w below waits.
-    desk-none g.G.Ground.plan g.G.Ground.start g.G.Ground.workers i.book i.scheduler w c.is_over-is_over.result _ c.self.invariant.desk
+    desk-none g.G.Ground.plan g.G.Ground.start g.G.Ground.workers i.book i.scheduler w c.is_over-is_over.result _ c.plan.result.now c.nodes_are_a_tree.ensures c.plan.ensures c.self.invariant.desk
     (none-told c.call.result _ _ c.call.ensures.whom none w below waits))

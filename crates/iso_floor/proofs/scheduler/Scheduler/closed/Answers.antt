@@ -1,4 +1,4 @@
-use Rattle.std.proofs.Common.{List, ap, length, sym, ◌∙◌}
+use Rattle.std.proofs.Common.{rules, List, Option, ℕ, ap, length, sym, ◌∙◌}
 use Rattle.std.proofs.lemmas.List.{length-replicate}
 use Rattle.iso_desk.specs.Crews.{fresh}
 use Rattle.iso_desk.specs.Places.{TableView, place_of}
@@ -6,6 +6,8 @@ use Rattle.iso_desk.specs.declared.crew.Member.{Member}
 use Rattle.iso_floor.specs.Schedulers.{is_entered, loose_in}
 use Rattle.iso_floor.proofs.LooseLemmas.{none-loose}
 use Rattle.iso_floor.proofs.LooseLemmas.{all-closed}
+use Rattle.iso_floor.specs.Parties.{owner_of}
+use Rattle.iso_floor.proofs.PartyLemmas.{none-owned, stand-closed}
 use Rattle.iso_floor.proofs.scheduler.Scheduler.closed.Goals as goal
 
 pub invariant_of-result : goal.invariant_of-result
@@ -19,3 +21,12 @@ invariant_of-result c =
 
 pub returns-clause-places : goal.returns-clause-places
 returns-clause-places c = λ m. ap (λ (t : TableView). is_entered (place_of t.places m)) c.in_ok-new.ensures ∙ ap is_entered (all-closed c.len.result m)
+
+pub returns-clause-stands : goal.returns-clause-stands
+returns-clause-stands c =
+    λ p. stand-closed p _ _ (λ m. ap (λ (t : TableView). place_of t.places m) c.in_ok-new.ensures ∙ all-closed c.len.result m)
+
+pub returns-clause-owners : goal.returns-clause-owners
+returns-clause-owners c =
+    let empty = c.in_ok-vec.ensures.items_if_clones_equal (λ y h. search rules) in
+    λ m. ap (λ (os : List (Option ℕ)). owner_of os m) empty ∙ none-owned c.len-nodes.result m

@@ -1,6 +1,14 @@
-use Rattle.std.proofs.Common.{subst, sym}
+use Rattle.std.proofs.Common.{ap, subst, sym, ◌∙◌}
 use Rattle.iso_floor.specs.Schedulers.{SchedulerView, WaitRightly}
+use Rattle.iso_floor.specs.Parties.{StandRightly}
+use Rattle.iso_desk.specs.Places.{place_of}
 use Rattle.iso_floor.proofs.scheduler.Scheduler.leave.Goals as goal
 
 pub returns-in-BeforeAll-clause-lines : goal.returns-in-BeforeAll-clause-lines
 returns-in-BeforeAll-clause-lines c = λ tree right. subst (λ (s : SchedulerView). WaitRightly tree s.table.places) (sym c.leave_open.ensures) right
+
+pub returns-in-BeforeAll-clause-stands : goal.returns-in-BeforeAll-clause-stands
+returns-in-BeforeAll-clause-stands c = λ right. subst (λ (s : SchedulerView). StandRightly c.args.plan.now s.owners s.table.places) (sym c.leave_open.ensures) right
+
+pub returns-in-BeforeAll-clause-closes : goal.returns-in-BeforeAll-clause-closes
+returns-in-BeforeAll-clause-closes c = λ n e. ap (λ (s : SchedulerView). place_of s.table.places n) (sym c.leave_open.ensures) ∙ e

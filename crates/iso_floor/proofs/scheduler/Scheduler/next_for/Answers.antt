@@ -1,12 +1,21 @@
-use Rattle.std.proofs.Common.{ap, refl, subst, sym, ◌∙◌}
+use Rattle.std.proofs.Common.{◌<◌, ◌^◌, ℕ, ap, length, refl, subst, sym, ◌∙◌}
 use Rattle.iso_desk.specs.Places.{IsFirst, TableView}
-use Rattle.iso_desk.specs.declared.place.Place.TheVariants.{Closed}
+use Rattle.iso_desk.specs.declared.place.Place.TheVariants.{Loose}
 use Rattle.iso_floor.specs.Schedulers.{SchedulerView, WaitRightly, loose_in}
-use Rattle.iso_floor.proofs.LooseLemmas.{left-line}
+use Rattle.iso_floor.proofs.LooseLemmas.{left-line, line-room}
 use Rattle.iso_floor.proofs.RightLemmas.{right-moved}
 use Rattle.iso_floor.proofs.SchedulerLemmas.{stands-within}
 use Rattle.iso_floor.proofs.PlaceLemmas.{Keeps, keeps-set}
 use Rattle.iso_floor.proofs.scheduler.Scheduler.next_for.Goals as goal
+
+pub recounted-self-inside-requires-clause-room : goal.recounted-self-inside-requires-clause-room
+recounted-self-inside-requires-clause-room c =
+    let places = c.self.inside.table.places in
+    let n = c.in_ok-node.node in
+    let l = c.in_ok-line.line in
+    let first : IsFirst places l n = c.in_ok-node.ensures in
+    let few : length places < 2 ^ 64 = subst (λ (k : ℕ). k < 2 ^ 64) c.nodes-nodes.ensures c.nodes-nodes.type_inv in
+    line-room places n l c.self.inside.loose (stands-within places l n first.0) few first.0 c.self.invariant.loose_are
 
 pub invariant_of-self : goal.invariant_of-self
 invariant_of-self c =
@@ -17,7 +26,7 @@ invariant_of-self c =
     record {
       crew = c.self.invariant.crew ∙ sym (ap (λ (t : TableView). t.workers) c.leave.ensures);
       loose_are =
-          left-line places n Closed l c.self.inside.loose (stands-within places l n first.0) first.0 refl c.self.invariant.loose_are
+          left-line places n l c.self.inside.loose c.recounted-self-inside.result (stands-within places l n first.0) first.0 c.self.invariant.loose_are c.recounted-self-inside.ensures
           ∙ sym (ap (λ (t : TableView). loose_in t.places) c.leave.ensures);
     }
 
@@ -26,10 +35,10 @@ returns-clause-lines c =
     let n = c.in_ok-node.node in
     λ tree right.
     subst (λ (t : TableView). WaitRightly tree t.places) (sym c.leave.ensures)
-    (right-moved tree c.self.inside.table n Closed refl (subst (λ (s : SchedulerView). WaitRightly tree s.table.places) (sym c.self.view_is) right))
+    (right-moved tree c.self.inside.table n Loose refl (subst (λ (s : SchedulerView). WaitRightly tree s.table.places) (sym c.self.view_is) right))
 
 pub returns-clause-places : goal.returns-clause-places
 returns-clause-places c =
     let places = c.self.inside.table.places in
     subst (λ (s : SchedulerView). Keeps s.table.places c.leave.new.self.places) c.self.view_is
-    (subst (λ (t : TableView). Keeps places t.places) (sym c.leave.ensures) (keeps-set places c.in_ok-node.node Closed refl))
+    (subst (λ (t : TableView). Keeps places t.places) (sym c.leave.ensures) (keeps-set places c.in_ok-node.node Loose refl))

@@ -6,6 +6,8 @@ use Rattle.iso_floor.proofs.RightLemmas.{right-moved}
 use Rattle.iso_floor.proofs.SchedulerLemmas.{put-kept}
 use Rattle.iso_floor.specs.Schedulers.{IsMoved}
 use Rattle.iso_floor.proofs.PlaceLemmas.{moved-put, moved-set}
+use Rattle.iso_floor.specs.Parties.{StandRightly}
+use Rattle.iso_floor.proofs.PartyLemmas.{stand-moved}
 use Rattle.iso_floor.proofs.scheduler.Scheduler.put.Goals as goal
 
 pub recounted-self-inside-requires-clause-was : goal.recounted-self-inside-requires-clause-was
@@ -56,3 +58,10 @@ returns-else-is_free-clause-places c =
     let t = c.args.self.now.table in
     subst (λ (u : TableView). IsMoved c.args.node c.args.place t.places u.places) (put-kept t c.args.node c.args.place (λ f. let no = c.is_free.ensures.free.1 f in cc))
     (moved-put t c.args.node c.args.place)
+
+pub returns-then-is_free-clause-stands : goal.returns-then-is_free-clause-stands
+returns-then-is_free-clause-stands c =
+    λ p right.
+    let old : StandRightly p c.self.inside.owners.items c.self.inside.table.places = subst (λ (s : SchedulerView). StandRightly p s.owners s.table.places) (sym c.self.view_is) right in
+    subst (λ (t : TableView). StandRightly p c.self.inside.owners.items t.places) (sym c.put.ensures)
+    (stand-moved p c.self.inside.owners.items c.self.inside.table c.args.node c.args.place c.requires old)
