@@ -37,6 +37,7 @@ use Rattle.iso_plan.specs.contracts.node_set.NodeSet as node_set
 use Rattle.iso_plan.specs.contracts.node_set.NodeSet.TheInside as node_set_inside
 use Rattle.iso_plan.specs.contracts.plan.Plan as plan
 use Rattle.iso_plan.specs.contracts.plan.Plan.TheInside as inside
+use Rattle.iso_plan.specs.contracts.row.Extras as extras
 use Rattle.iso_plan.specs.contracts.row.Kind as kind
 use Rattle.iso_plan.specs.contracts.row.Row as row
 use Rattle.iso_settings.proofs.settings.Settings.TheSendSync as settings
@@ -76,6 +77,7 @@ ruleset parts = (
   mode.the_sync,
   text.the_send,
   text.the_sync,
+  tree_text.the_sync,
   lock.the_sync,
   settings.the_sync,
   crosses,
@@ -113,8 +115,13 @@ ruleset heads = (class_sent, class_shared, test_sent, test_shared, parts)
 pub kind_shared : IsSync kind.the_row
 kind_shared = variants_sync kind.enum (tt, ((search heads, (search heads, tt)), ((search heads, tt), tt)))
 
+pub extras_shared : IsSync extras.the_row
+extras_shared = declared_sync extras.the_type (search parts, (search parts, tt))
+
+ruleset apart = (extras_shared, parts)
+
 pub row_shared : IsSync row.the_row
-row_shared = declared_sync row.the_type (search parts, (kind_shared, (search parts, (search parts, (search parts, (search parts, tt))))))
+row_shared = declared_sync row.the_type (search parts, (search parts, (kind_shared, (search parts, (search apart, tt)))))
 
 ruleset rows = (row_shared, heads)
 

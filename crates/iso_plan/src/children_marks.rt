@@ -19,7 +19,7 @@ pub(crate) fn make_effective(alloc: Global, rows: &mut Vec<Row>) -> Result<(), A
 {
     'nodes: for n in 0..rows.len() {
         let above = rows[n].parent as usize;
-        let marks = effective(alloc, &rows[above].written, &rows[n].written)?;
+        let marks = effective(alloc, rows[above].written(), rows[n].written())?;
         if marks.is_empty() && rows[n].kind.marks().is_empty() {
             continue;
         }
@@ -63,6 +63,8 @@ fn effective(alloc: Global, above: &[Mark], written: &[Mark]) -> Result<Vec<Mark
 }
 
 /// Adds those of the written marks that are for a target, as marks of the node for which they are.
+/// Mostly there are none.
+#[inline(always)]
 fn add_marks(marks: &mut Vec<Mark>, written: &[Mark], target: Target) -> Result<(), AllocError>
     ensures { OnOk result (marks.new.items ≡ marks.old.items ++ marks_for target written.now) }
 {

@@ -5,7 +5,7 @@ ghost use Rattle.iso_model.specs.declared.limits.TheConstants.{NODES};
 ghost use Rattle.iso_plan.specs.KeyTable.{kind_marks};
 ghost use Rattle.iso_plan.specs.Locks.{holds_isolated, is_isolated, is_that, marks_global};
 ghost use Rattle.iso_plan.specs.Paths.{IsTree, column, outermost, path};
-ghost use Rattle.iso_plan.specs.RowView.{kind_of, nodes_in};
+ghost use Rattle.iso_plan.specs.RowView.{kind_of, nodes_in, written_in};
 
 use crate::keys::GLOBAL_KEY;
 use crate::outermost::outermost;
@@ -34,11 +34,11 @@ pub(crate) fn isolated(alloc: Global, rows: &[Row]) -> Result<Vec<bool>, AllocEr
 /// Whether a node is an isolated class, or a mark that is written on one names the global key. Where
 /// this isn't so, no node asks for isolation.
 fn any_isolates(rows: &[Row]) -> bool
-    ensures { result ≡ list_any (λ r. is_isolated (kind_of r.kind) || marks_global r.written.items)
-        rows.now }
+    ensures { result ≡ list_any (λ r. is_isolated (kind_of r.kind)
+        || marks_global (written_in r.extras)) rows.now }
 {
     'rows: for row in rows {
-        if row.kind.is_isolated() || marks_global(&row.written) {
+        if row.kind.is_isolated() || marks_global(row.written()) {
             return true;
         }
     }

@@ -34,7 +34,7 @@ pub(crate) fn number_keys<'a>(
 {
     table.insert(GLOBAL_KEY)?;
     'rows: for row in rows {
-        add_marks(table, &row.written)?;
+        add_marks(table, row.written())?;
     }
     if table.as_slice().len() > KEYS as usize + 1 {
         return Err(PlanError::Fault(PlanFault::TooManyKeys));

@@ -19,7 +19,7 @@ pub(crate) fn path_texts(alloc: Global, rows: &[Row]) -> Result<Vec<Text>, Alloc
     paths.push(Text::new(String::new(alloc)))?;
     'nodes: for n in 1..rows.len() {
         let class = rows[n].parent as usize;
-        let path = path_in(alloc, class, &paths[class], &rows[n].name)?;
+        let path = path_in(alloc, class, &paths[class], rows[n].name.as_str())?;
         paths.push(path)?;
     }
     Ok(paths)
@@ -27,15 +27,14 @@ pub(crate) fn path_texts(alloc: Global, rows: &[Row]) -> Result<Vec<Text>, Alloc
 
 /// The path of a node of this name that is a child of the class with this number and path, or of
 /// the root.
-fn path_in(alloc: Global, class: usize, above: &Text, name: &Text) -> Result<Text, AllocError>
+fn path_in(alloc: Global, class: usize, above: &Text, name: &str) -> Result<Text, AllocError>
     ensures { IfOk result (λ t. t ≡ cond (class == 0) name.now
         (above.now ++ (codes "." ++ name.now))) }
 {
     if class == 0 {
-        return name.copy(alloc);
+        return Text::copied(alloc, name);
     }
     let above = above.as_str();
-    let name = name.as_str();
     Ok(Text::new(format!(in alloc; "{above}.{name}")?))
 }
 

@@ -2,7 +2,7 @@
 ghost use Rattle.std.specs.Prelude.{◌≡◌, ◌<◌, ℕ, IfOk, IsTrue, false, length, slice_index_or, true};
 ghost use Rattle.iso_plan.specs.Paths.{is_test};
 ghost use Rattle.iso_plan.specs.Repeated.{Repeats};
-ghost use Rattle.iso_plan.specs.RowView.{kind_of, nodes_in};
+ghost use Rattle.iso_plan.specs.RowView.{kind_of, nodes_in, written_in};
 
 use crate::rights::are_alike;
 use crate::row::{Kind, Row};
@@ -37,7 +37,7 @@ fn repeats(rows: &[Row], n: usize) -> bool
 fn is_repeated(a: &Row, b: &Row) -> bool
     ensures { IsTrue result → ((is_test (kind_of a.now.kind) ≡ true)
         × (is_test (kind_of b.now.kind) ≡ true) × (a.now.parent ≡ b.now.parent)
-        × (a.now.written.items ≡ b.now.written.items)) }
+        × (written_in a.now.extras ≡ written_in b.now.extras)) }
 {
     is_test(a) && is_test(b) && are_alike(a, b)
 }

@@ -3,7 +3,7 @@ ghost use Rattle.std.specs.Prelude.{◌≡◌, ◌<◌, ◌↔◌, ℕ, List, If
 ghost use Rattle.iso_model.specs.Rights.{rights_of, strongest};
 ghost use Rattle.iso_plan.specs.NodeChains.{node_rights};
 ghost use Rattle.iso_plan.specs.Paths.{IsTree, column};
-ghost use Rattle.iso_plan.specs.RowView.{nodes_in, rights_in};
+ghost use Rattle.iso_plan.specs.RowView.{nodes_in, rights_in, written_in};
 
 use crate::row::Row;
 use iso_model::heads::Mark;
@@ -56,9 +56,9 @@ fn rights_at(
 /// the same effective marks and the same rights.
 pub(crate) fn are_alike(a: &Row, b: &Row) -> bool
     ensures { IsTrue result ↔ ((a.now.parent ≡ b.now.parent)
-        × (a.now.written.items ≡ b.now.written.items)) }
+        × (written_in a.now.extras ≡ written_in b.now.extras)) }
 {
-    a.parent == b.parent && same_marks(&a.written, &b.written)
+    a.parent == b.parent && same_marks(a.written(), b.written())
 }
 
 /// The rights of a child of a class with these rights, where these are the child's own marks: one

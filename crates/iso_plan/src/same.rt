@@ -41,7 +41,7 @@ fn same_place(a: &Row, b: &Row) -> bool
 fn same_row(a: &Row, b: &Row) -> bool
     ensures { IsTrue result ↔ (row_of a.now ≡ row_of b.now) }
 {
-    same_place(a, b) && same_marks(&a.written, &b.written) && same_kind(&a.kind, &b.kind)
+    same_place(a, b) && same_marks(a.written(), b.written()) && same_kind(&a.kind, &b.kind)
 }
 
 /// Whether two lists of nodes say the same.

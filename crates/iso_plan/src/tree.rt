@@ -3,14 +3,17 @@ ghost use Rattle.std.specs.Prelude.{◌≡◌, ◌<◌, ◌+◌, ◌≤◌, ◌+
 ghost use Rattle.std.specs.Option.{option_map};
 ghost use Rattle.iso_model.specs.ScriptView.{class_of, member_of, members_of, script_of, test_of};
 ghost use Rattle.iso_plan.specs.Faults.{IsFull};
-ghost use Rattle.iso_plan.specs.RowView.{nodes_in, row_of, title_of};
+ghost use Rattle.iso_plan.specs.Merged.{merged};
+ghost use Rattle.iso_plan.specs.RowView.{display_in, nodes_in, row_of, title_of, written_in};
 ghost use Rattle.iso_plan.specs.Tree.{in_team, class_row, class_rows, member_rows, members_rows, root_row, script_rows, team_rows, test_row, top_row, top_rows, written_tree};
 
 use crate::fault::{PlanError, PlanFault};
 use crate::merged::merged;
-use crate::row::{Kind, Row};
+use crate::row::{Extras, Kind, Row};
+use iso_model::heads::Mark;
 use iso_model::script::{Class, Member, Script, Test};
 use iso_model::text::Text;
+use iso_model::tree_text::TreeText;
 use std::alloc::{AllocError, Global};
 
 /// The nodes of scripts as they are written, in preorder, after the root: scripts as handed in,
@@ -77,15 +80,15 @@ fn root(alloc: Global) -> Row
 {
     Row {
         parent: 0,
-        kind: Kind::Root,
-        written: Vec::new(alloc),
-        name: Text::new(String::new(alloc)),
-        display: None,
         mode: None,
+        kind: Kind::Root,
+        name: TreeText::of(Text::new(String::new(alloc))),
+        extras: None,
     }
 }
 
-/// Adds a node.
+/// Adds a node. Inlined, so that its row is made where it stands.
+#[inline(always)]
 fn add(rows: &mut Vec<Row>, row: Row, most: u32) -> Result<(), PlanError>
     ensures ok { OnOk result (nodes_in rows.new.items ≡ nodes_in rows.old.items
         ++ row_of row ∷ []) }
@@ -207,10 +210,9 @@ fn test_row(alloc: Global, parent: u32, test: &Test) -> Result<Row, AllocError>
 {
     Ok(Row {
         parent,
-        name: test.name.copy(alloc)?,
-        display: copy(alloc, &test.display)?,
         mode: test.mode,
-        written: merged(alloc, &test.head.marks)?,
+        name: TreeText::copied(alloc, test.name.as_str())?,
+        extras: extras(alloc, &test.head.marks, copy(alloc, &test.display)?)?,
         kind: Kind::Test {
             head: test.head.clone()?,
         },
@@ -223,10 +225,9 @@ fn class_row(alloc: Global, parent: u32, class: &Class) -> Result<Row, AllocErro
 {
     Ok(Row {
         parent,
-        name: class.name.copy(alloc)?,
-        display: copy(alloc, &class.display)?,
         mode: class.mode,
-        written: merged(alloc, &class.head.marks)?,
+        name: TreeText::copied(alloc, class.name.as_str())?,
+        extras: extras(alloc, &class.head.marks, copy(alloc, &class.display)?)?,
         kind: Kind::Class {
             isolated: class.isolated,
             head: class.head.clone()?,
@@ -240,15 +241,34 @@ fn top_row(alloc: Global, team: &Text, class: &Class) -> Result<Row, AllocError>
 {
     Ok(Row {
         parent: 0,
-        name: in_team(alloc, team, &class.name)?,
-        display: display_in_team(alloc, team, &class.display)?,
         mode: class.mode,
-        written: merged(alloc, &class.head.marks)?,
+        name: TreeText::of(in_team(alloc, team, &class.name)?),
+        extras: extras(
+            alloc,
+            &class.head.marks,
+            display_in_team(alloc, team, &class.display)?,
+        )?,
         kind: Kind::Class {
             isolated: class.isolated,
             head: class.head.clone()?,
         },
     })
+}
+
+/// What a node with these marks and this display text has beside what all have, if it is anything.
+fn extras(
+    alloc: Global,
+    marks: &[Mark],
+    display: Option<Text>,
+) -> Result<Option<Box<Extras>>, AllocError>
+    ensures written { IfOk result (λ e. written_in e ≡ merged marks.now) }
+    ensures display { IfOk result (λ e. display_in e ≡ display) }
+{
+    if marks.is_empty() && display.is_none() {
+        return Ok(None);
+    }
+    let written = merged(alloc, marks)?;
+    Ok(Some(Box::new(alloc, Extras { written, display })?))
 }
 
 /// The same text, if there is one.

@@ -6,7 +6,7 @@ use Rattle.iso_plan.proofs.EffectiveLemmas.{all-effective, bare-effective, next-
 use Rattle.iso_plan.proofs.PathLemmas.{eq_from}
 use Rattle.iso_plan.specs.KeyTable.{kind_marks}
 use Rattle.iso_plan.specs.Paths.{parent, row_at}
-use Rattle.iso_plan.specs.RowView.{kind_of, row_of}
+use Rattle.iso_plan.specs.RowView.{kind_of, row_of, written_in}
 use Rattle.iso_plan.specs.Tree as T
 use Rattle.iso_plan.specs.Tree.{with_marks}
 use Rattle.iso_plan.specs.declared.row.Row.{Row}
@@ -35,10 +35,10 @@ nodes-preserved c =
     let up : parent (map row_of now) n ≡ q.parent = ap (λ (x : T.Row). x.parent) (sym is) ∙ ap (λ (x : Row). x.parent) (sym same) in
     let there = parent-there old (map row_of now) n c.nodes.invariant c.requires less in
     let inside : q.parent < length now = omega (arith, up) in
-    let above : c.deref.result.now ≡ (row_at (map row_of now) (row_of r).parent).written =
-    c.deref.ensures.value ∙ ap (λ (x : Row). x.written.items) c.index-in-nodes.ensures
+    let above : c.written.result.now ≡ (row_at (map row_of now) (row_of r).parent).written =
+    c.written.ensures ∙ ap (λ (x : Row). written_in x.extras) c.index-in-nodes.ensures
     ∙ sym (ap (λ (x : T.Row). x.written) (row-at now q.parent p inside)) ∙ ap (λ (x : Row). (row_at (map row_of now) x.parent).written) same in
-    let written : c.deref-in-nodes.result.now ≡ (row_of r).written = c.deref-in-nodes.ensures.value ∙ ap (λ (x : Row). x.written.items) own in
+    let written : c.written-in-nodes.result.now ≡ (row_of r).written = c.written-in-nodes.ensures ∙ ap (λ (x : Row). written_in x.extras) own in
     let marks : c.in_ok-marks.marks.items ≡ effective (row_at (map row_of now) (row_of r).parent).written (row_of r).written =
     c.in_ok-marks.ensures ∙ (λ i. effective (above i) (written i)) in
     let kind : kind_of c.in_ok-kind.kind ≡ with_marks (effective (row_at (map row_of now) (row_of r).parent).written (row_of r).written) (row_of r).kind =
@@ -65,10 +65,10 @@ nodes-preserved-then-is_empty-2 c =
     let up : parent tree n ≡ q.parent = ap (λ (x : T.Row). x.parent) (row-at now n q within ∙ ap row_of (sym c.index.ensures)) in
     let there = parent-there old tree n c.nodes.invariant c.requires less in
     let inside : q.parent < length now = omega (arith, up) in
-    let above : c.deref.result.now ≡ (row_at tree (parent tree n)).written =
-    c.deref.ensures.value ∙ ap (λ (x : Row). x.written.items) c.index-in-nodes.ensures
+    let above : c.written.result.now ≡ (row_at tree (parent tree n)).written =
+    c.written.ensures ∙ ap (λ (x : Row). written_in x.extras) c.index-in-nodes.ensures
     ∙ sym (ap (λ (x : T.Row). x.written) (row-at now q.parent p inside)) ∙ ap (λ (j : ℕ). (row_at tree j).written) (sym up) in
-    let written : c.deref-in-nodes.result.now ≡ (row_at tree n).written = c.deref-in-nodes.ensures.value ∙ ap (λ (x : T.Row). x.written) (sym own) in
+    let written : c.written-in-nodes.result.now ≡ (row_at tree n).written = c.written-in-nodes.ensures ∙ ap (λ (x : T.Row). x.written) (sym own) in
     let marks : c.in_ok-marks.marks.items ≡ effective (row_at tree (parent tree n)).written (row_at tree n).written = c.in_ok-marks.ensures ∙ (λ i. effective (above i) (written i)) in
     let none : length c.in_ok-marks.marks.items ≡ 0 = sym c.in_ok-marks.marks.ok.0 ∙ eq_from (vec_len c.in_ok-marks.marks) 0 (sym c.if-is_empty.ensures) in
     let bare : length c.marks.result.now ≡ 0 = eq_from (length c.marks.result.now) 0 (sym c.if-is_empty-2.ensures) in

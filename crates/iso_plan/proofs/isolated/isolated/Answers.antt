@@ -8,12 +8,12 @@ use Rattle.iso_plan.proofs.TopLemmas.{top, top-le, isolates-next}
 use Rattle.iso_plan.specs.KeyTable.{kind_marks}
 use Rattle.iso_plan.specs.Locks.{holds_isolated, is_isolated, is_that, isolates, marks_global}
 use Rattle.iso_plan.specs.Paths.{column, is_top}
-use Rattle.iso_plan.specs.RowView.{kind_of, row_of}
+use Rattle.iso_plan.specs.RowView.{kind_of, row_of, written_in}
 use Rattle.iso_plan.specs.declared.row.Row.{Row}
 use Rattle.iso_plan.specs.Tree as T
 use Rattle.iso_plan.proofs.isolated.isolated.Goals as goal
 
-asked : (rs : List Row) → list_any asks (map row_of rs) ≡ list_any (λ (r : Row). is_isolated (kind_of r.kind) || marks_global r.written.items) rs
+asked : (rs : List Row) → list_any asks (map row_of rs) ≡ list_any (λ (r : Row). is_isolated (kind_of r.kind) || marks_global (written_in r.extras)) rs
 asked [] = refl
 asked (r ∷ rs) = ap (λ (b : Bool). asks (row_of r) || b) (asked rs)
 

@@ -23,7 +23,7 @@ rows-preserved c =
     let old = map text c.rows.table.keys in
     let rest = marked_keys (map row_of (drop (i + 1) rs)) in
     let own = mark_keys (row_of c.row-item.result).written in
-    ap (λ (ks : List (List ℕ)). insert_all bytes_eq ks rest) (c.in_ok-add_marks.ensures ∙ ap (λ (ms : List Mark). insert_all bytes_eq old (mark_keys ms)) c.deref.ensures.value)
+    ap (λ (ks : List (List ℕ)). insert_all bytes_eq ks rest) (c.in_ok-add_marks.ensures ∙ ap (λ (ms : List Mark). insert_all bytes_eq old (mark_keys ms)) c.written.ensures)
     ∙ sym (fold-append (insert_key bytes_eq) old own rest) ∙ rw next at c.rows.invariant
 
 pub returns-then-as_slice-clause-crowded : goal.returns-then-as_slice-clause-crowded

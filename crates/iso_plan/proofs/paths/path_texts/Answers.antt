@@ -35,7 +35,7 @@ nodes-preserved c =
     let above : c.index.result.now ≡ f (parent tree n) = c.index.ensures ∙ column-read f v.items n p c.index.result.now c.nodes.invariant (omega arith) ∙ ap f (sym at) in
     let own = ap (λ (r : T.Row). r.name) (row-at rows n c.index-rows-n-in-nodes.result (omega arith)) in
     let this : c.in_ok-path.path ≡ f n =
-    c.in_ok-path.ensures ∙ ap₂ (λ (m : ℕ) (t : List ℕ). text_in m t (get_or rows n c.index-rows-n-in-nodes.result).name) (sym at) above
+    c.in_ok-path.ensures ∙ ap (text_in p c.index.result.now) c.as_str.ensures ∙ ap₂ (λ (m : ℕ) (t : List ℕ). text_in m t (get_or rows n c.index-rows-n-in-nodes.result).name) (sym at) above
     ∙ ap (text_in (parent tree n) (f (parent tree n))) (sym own) ∙ sym (path_text-step tree c.requires.below n (omega arith)) in
     c.in_ok-push-2.ensures.items ∙ column-push f v.items n c.in_ok-path.path c.nodes.invariant this
 
