@@ -1,7 +1,7 @@
 -- What a mark keeps of the values that were changed, one by one.
 use Rattle.std.proofs.Common.{◌≡◌, ◌≢◌, ℕ, ◌+◌, ◌<◌, ◌≤◌, ◌==◌, ◌||◌, List, [], ◌∷◌, ◌++◌, length, map, Option, Some, None, Bool, true, false, cond, get_or, ap, sym, subst, ◌∙◌, arith, refl, inl, inr}
 use Rattle.std.proofs.lemmas.Bool.{cases_eq, cases_lt}
-use Rattle.std.proofs.lemmas.List.{get_or_past}
+use Rattle.std.proofs.lemmas.List.{get_or_default, get_or_past}
 use Rattle.iso_desk.proofs.BitLemmas.{eq_false, eq_true}
 use Rattle.iso_locks.proofs.OwnerLemmas.{column-slot}
 use Rattle.iso_locks.specs.Kept.{AreOf, is_kept, kept_by}
@@ -11,6 +11,7 @@ use Rattle.iso_locks.specs.declared.kept.KeptMark.{KeptMark}
 use Rattle.iso_locks.specs.declared.starting.Starting.{Starting}
 use Rattle.iso_model.specs.Rights.{access_in, is_writable}
 use Rattle.iso_model.specs.declared.access.Access.{Access}
+use Rattle.iso_plan.proofs.ColumnLemmas.{column-from}
 use Rattle.iso_plan.specs.Paths.{column}
 use Rattle.iso_store.specs.Histories.{History}
 
@@ -120,9 +121,11 @@ module _ (rights : List (List ℕ × Access)) (ks : List (List ℕ)) (values : S
     | inr after ↦ let wrong : false ≡ true = sym (none i after) ∙ was-changed i e in absurd (cc)
   ]
 
--- without a value nothing is kept, whatever the rights
-pub nothing-kept : (b d : Bool) (o : Option History) → o ≡ None → cond b o None ≡ cond d o None
-nothing-kept b d o e = ap (λ (p : Option History). cond b p None) e ∙ none-of b ∙ sym (none-of d) ∙ ap (λ (p : Option History). cond d p None) (sym e)
+-- of slots without a value nothing is kept
+pub nothing-kept : (values : Slots) (may : ℕ → Bool) → ((i : ℕ) → slot values i ≡ None) → values ≡ column (λ i. cond (may i) (slot values i) None) (length values)
+nothing-kept values may none =
+    column-from (λ i. cond (may i) (slot values i) None) values (length values) refl
+    (λ i d h. get_or_default values i d None h ∙ none i ∙ sym (none-of (may i)) ∙ ap (λ (o : Option History). cond (may i) o None) (sym (none i)))
 
 -- rights that let the same of these values be changed keep the same
 pub same-kept : (r s : List (List ℕ × Access)) (starts : List Starting) (values : Slots)

@@ -199,3 +199,9 @@ within-by slots i h l = elim (cases_lt i (length slots)) [
   | inl below ↦ below
   | inr past ↦ let wrong : None ≡ Some l.now = sym (get_or_past slots i None past) ∙ l.there in absurd (cc)
 ]
+
+-- values go back to a mark of nothing as they are
+pub restored-none : (marks values : Slots) → ((i : ℕ) → slot marks i ≡ None) → values ≡ restored marks values
+restored-none marks values none =
+    column-from (λ i. option_or (slot marks i) (slot values i)) values (length values) refl
+    (λ i d h. get_or_default values i d None h ∙ ap (λ (o : Option History). option_or o (slot values i)) (sym (none i)))

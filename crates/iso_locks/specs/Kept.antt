@@ -1,8 +1,9 @@
--- What a mark of a tray keeps of the values that were changed.
+-- What a mark of a tray keeps of values.
 --
 -- what a mark keeps: Of each value that was changed its moment, with its number (`is_kept`,
--- `AreOf`), and of the others which they are (`KeepsMark`).
-use Rattle.std.specs.Prelude.{◌≡◌, ◌≤◌, ◌==◌, ◌||◌, ℕ, List, [], ◌∷◌, length, map, Some, Bool, true, false}
+-- `AreOf`), and of the others which they are (`KeepsMark`); nothing where no value is there
+-- (`KeepsAll`).
+use Rattle.std.specs.Prelude.{◌≡◌, ◌≤◌, ◌==◌, ◌||◌, ℕ, List, [], ◌∷◌, length, map, Option, Some, None, Bool, true, false}
 use Rattle.iso_locks.specs.KeySets.{holds}
 use Rattle.iso_locks.specs.Slots.{Slots, has_changed, has_unchanged, slot}
 use Rattle.iso_locks.specs.Trays.{kept_at}
@@ -37,3 +38,7 @@ pub record KeepsMark (rights : List (List ℕ × Access)) (starts : List Startin
   pub marks_are : AreOf (kept_by rights starts then) marks
   pub all : (i : ℕ) → has_changed (slot (kept_by rights starts then) i) ≡ true
       → is_kept marks i ≡ true
+
+-- where nothing was kept of slots, none of them had a value
+abbrev pub KeepsAll : Option Slots → Slots → Type 0
+KeepsAll kept then = kept ≡ None → (i : ℕ) → slot then i ≡ None

@@ -3,13 +3,11 @@ ghost use Rattle.std.specs.Prelude.{◌≡◌, ◌<◌, ◌++◌, ◌∷◌, [],
 ghost use Rattle.iso_store.specs.Histories.{History};
 ghost use Rattle.iso_locks.specs.Clashes.{clash};
 ghost use Rattle.iso_locks.specs.Owners.{AreOwned, CanHold};
-ghost use Rattle.iso_locks.specs.Kept.{AreOf, is_kept, kept_by};
 ghost use Rattle.iso_locks.specs.Slots.{HasLater, has_changed, has_unchanged, slot};
 ghost use Rattle.iso_locks.specs.Flats.{IsFlat, flat};
 ghost use Rattle.iso_lifecycle.specs.ResultViews.{AreOpened};
 ghost use Rattle.iso_lifecycle.specs.Subjects.{started};
 ghost use Rattle.iso_locks.specs.Trays.{CanUndo, empty_tray, frames_on, is_lent, marked, restored, undone};
-ghost use Rattle.iso_model.specs.Rights.{access_in, is_writable};
 ghost use Rattle.iso_locks.specs.Moves.{is_written, moved_away, moved_here};
 ghost use Rattle.iso_locks.specs.Vaults.{giving_back, receiving};
 ghost use Rattle.iso_plan.specs.HeldNodes.{any_held};
@@ -19,8 +17,7 @@ ghost use Rattle.iso_plan.specs.NodeChains.{depth};
 ghost use Rattle.iso_plan.specs.Paths.{is_test, path, row_at};
 ghost use Rattle.iso_plan.specs.RowView.{tree_of};
 
-use crate::kept::{KeptMark, kept};
-use crate::key_set::KeySet;
+use crate::kept::KeptValues;
 use crate::lent::LentNodes;
 use crate::moves::move_values;
 use crate::slots::Slots;
@@ -28,10 +25,8 @@ use crate::starting::{Starts, starts_of};
 use crate::vault::values;
 use iso_lifecycle::frame::Frame;
 use iso_lifecycle::results::Results;
-use iso_model::access::Access;
 use iso_model::resource::{Ask, Change};
 use iso_model::resource_key::ResourceKey;
-use iso_model::rights::Rights;
 use iso_model::touch::Touch;
 use iso_plan::laws;
 use iso_plan::lock::Lock;
@@ -92,102 +87,24 @@ impl<'a> Model for Tray<'a> {
 #[derive(Drop)]
 pub struct Savepoint {
     node: u32,
-    /// Which of the values may be changed, by their keys.
-    rights: Rights,
-    starts: Starts,
-    /// Where a value was unchanged, whether it may be changed or not.
-    unchanged: KeySet,
-    /// Of those that were changed the values that may be changed.
-    changed: Vec<KeptMark>,
+    /// What was kept, or nothing where the tray had no value.
+    kept: Option<KeptValues>,
     /// All values as they stood. Contracts alone see them: they have no size.
     then: Snapshot<Slots>,
 }
 
 impl Model for Savepoint {
-    ghost use Rattle.iso_locks.specs.Kept.{KeepsMark, kept_by};
+    ghost use Rattle.std.specs.Prelude.{unwrap_or};
+    ghost use Rattle.iso_locks.specs.Kept.{KeepsAll};
     ghost use Rattle.iso_locks.specs.Trays.{SavepointView, savepoint_code};
 
     ghost Value = { SavepointView };
 
     ghost coded = { savepoint_code };
 
-    ghost view = { λ m. record {
-      node = m.node;
-      values = kept_by m.rights m.starts m.then.value;
-    } };
+    ghost view = { λ m. record { node = m.node; values = unwrap_or m.kept m.then.value } };
 
-    ghost invariant = { λ m. KeepsMark m.rights m.starts m.unchanged m.changed.items
-        m.then.value };
-}
-
-impl Savepoint {
-    /// What a node's rights let it change of values. Where none is there it takes no memory.
-    fn of(
-        alloc: Global,
-        node: u32,
-        rights: &Rights,
-        starts: Starts,
-        values: &Slots,
-    ) -> Result<Savepoint, AllocError>
-        requires { length starts ≡ length values.now }
-        ensures { IfOk result (λ m. m
-            ≡ record { node = node; values = kept_by rights.now starts values.now }) }
-    {
-        let rights = share_for(alloc, rights, values)?;
-        let changed = kept(alloc, &rights, &starts, values)?;
-        Ok(Savepoint {
-            node,
-            rights,
-            starts,
-            unchanged: values.unchanged(),
-            changed,
-            then: Snapshot::of(values),
-        })
-    }
-
-    /// Whether a value was kept, and was unchanged.
-    fn keeps_unchanged(&self, number: usize) -> bool
-        requires { number < length self.now.values }
-        ensures { result ≡ has_unchanged (slot self.now.values number) }
-    {
-        if self.unchanged.has(number) {
-            is_write(self.rights.access(&self.starts.get(number).key))
-        } else {
-            false
-        }
-    }
-
-    /// The values that were kept and were changed. Takes no memory.
-    fn into_changed(self) -> Vec<KeptMark>
-        ensures marks { AreOf self.values result.items }
-        ensures all { (i : ℕ) → has_changed (slot self.values i) ≡ true
-            → is_kept result.items i ≡ true }
-    {
-        self.changed
-    }
-}
-
-/// Whether an access lets a value be changed.
-fn is_write(access: Option<Access>) -> bool
-    ensures { result ≡ is_writable access }
-{
-    match access {
-        Some(Access::Write) => true,
-        Some(Access::Read) | None => false,
-    }
-}
-
-/// Rights that let the same of these values be changed. Where there is no value they take no
-/// memory.
-fn share_for(alloc: Global, rights: &Rights, values: &Slots) -> Result<Rights, AllocError>
-    ensures { IfOk result (λ r. (i : ℕ) (k : List ℕ)
-        → cond (is_writable (access_in r k)) (slot values.now i) None
-        ≡ cond (is_writable (access_in rights.now k)) (slot values.now i) None) }
-{
-    if values.has_none() {
-        return Ok(Rights::new(alloc));
-    }
-    rights.within(alloc, &[])
+    ghost invariant = { λ m. KeepsAll m.kept m.then.value };
 }
 
 impl<'a> Tray<'a> {
@@ -328,9 +245,21 @@ impl<'a> Tray<'a> {
         requires { node < length self.now.plan.rows }
         ensures { IfOk result (λ m. m ≡ marked self.now node) }
     {
-        let rights = self.plan.rights(node);
+        let then = Snapshot::of(&self.values);
+        if self.values.has_none() {
+            return Ok(Savepoint {
+                node,
+                kept: None,
+                then,
+            });
+        }
         let starts = self.starts.share()?;
-        Savepoint::of(alloc, node, rights, starts, &self.values)
+        let kept = KeptValues::of(alloc, self.plan.rights(node), starts, &self.values)?;
+        Ok(Savepoint {
+            node,
+            kept: Some(kept),
+            then,
+        })
     }
 
     /// Lets the values that were kept stand as they stood then, and leaves all others. The tray has
@@ -430,24 +359,31 @@ fn go_back(values: &mut Slots, mark: Savepoint)
         → HasLater values.old i h }
     ensures { values.new ≡ restored mark.values values.old }
 {
-    undo_unchanged(values, &mark);
-    undo_changed(values, mark);
+    let Savepoint {
+        node: _,
+        kept,
+        then: _,
+    } = mark;
+    if let Some(kept) = kept {
+        undo_unchanged(values, &kept);
+        undo_changed(values, kept);
+    }
 }
 
 /// Lets those values go back that were unchanged at a mark.
-fn undo_unchanged(values: &mut Slots, mark: &Savepoint)
-    requires fits { length mark.now.values ≡ length values.old }
-    requires later { (i : ℕ) (h : History) → slot mark.now.values i ≡ Some h
+fn undo_unchanged(values: &mut Slots, kept: &KeptValues)
+    requires fits { length kept.now ≡ length values.old }
+    requires later { (i : ℕ) (h : History) → slot kept.now i ≡ Some h
         → HasLater values.old i h }
     ensures fits { length values.new ≡ length values.old }
-    ensures back { (i : ℕ) → has_unchanged (slot mark.now.values i) ≡ true
-        → slot values.new i ≡ slot mark.now.values i }
-    ensures others { (i : ℕ) → has_unchanged (slot mark.now.values i) ≡ false
+    ensures back { (i : ℕ) → has_unchanged (slot kept.now i) ≡ true
+        → slot values.new i ≡ slot kept.now i }
+    ensures others { (i : ℕ) → has_unchanged (slot kept.now i) ≡ false
         → slot values.new i ≡ slot values.old i }
 {
     let mut at = 0;
     'changed: while let Some(number) = values.next_changed(at) {
-        if mark.keeps_unchanged(number) {
+        if kept.has_unchanged(number) {
             values.restart(number);
         }
         at = number + 1;
@@ -455,16 +391,16 @@ fn undo_unchanged(values: &mut Slots, mark: &Savepoint)
 }
 
 /// Lets those values go back that were changed at a mark.
-fn undo_changed(values: &mut Slots, mark: Savepoint)
-    requires fits { length mark.values ≡ length values.old }
-    requires later { (i : ℕ) (h : History) → slot mark.values i ≡ Some h
+fn undo_changed(values: &mut Slots, kept: KeptValues)
+    requires fits { length kept ≡ length values.old }
+    requires later { (i : ℕ) (h : History) → slot kept i ≡ Some h
         → HasLater values.old i h }
-    requires back { (i : ℕ) → has_unchanged (slot mark.values i) ≡ true
-        → slot values.old i ≡ slot mark.values i }
-    ensures { values.new ≡ restored mark.values values.old }
+    requires back { (i : ℕ) → has_unchanged (slot kept i) ≡ true
+        → slot values.old i ≡ slot kept i }
+    ensures { values.new ≡ restored kept values.old }
 {
-    let mut marks = mark.into_changed();
-    'marks: while let Some(kept) = marks.pop() {
-        values.undo_to(kept.number, kept.mark);
+    let mut marks = kept.into_changed();
+    'marks: while let Some(changed) = marks.pop() {
+        values.undo_to(changed.number, changed.mark);
     }
 }

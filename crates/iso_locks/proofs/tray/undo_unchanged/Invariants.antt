@@ -5,7 +5,7 @@ use Rattle.iso_locks.proofs.tray.undo_unchanged.Given as goal
 abbrev pub invariant-changed : goal.invariant-changed
 invariant-changed l = record {
   within : l.at ≤ length l.values;
-  restarting : Restarting l.mark.values l.initial.values l.values l.at;
+  restarting : Restarting l.kept l.initial.values l.values l.at;
 }
 
 abbrev pub decreases-changed : goal.decreases-changed

@@ -1,5 +1,4 @@
 use Rattle.std.proofs.Common.{◌≡◌, ℕ, List, [], length, map, None, cond, slice_index_or, ap, ap₂, sym, ◌∙◌}
-use Rattle.std.proofs.lemmas.Result.{IfOk-weaker}
 use Rattle.iso_model.specs.Rights.{Rights, access_in, is_writable}
 use Rattle.iso_model.specs.declared.access.Access.{Access}
 use Rattle.iso_plan.specs.KeyTable.{keys}
@@ -10,8 +9,9 @@ use Rattle.iso_plan.specs.Tree.{Row}
 use Rattle.iso_settings.specs.Worlds.{Start}
 use Rattle.iso_locks.specs.Kept.{kept_by}
 use Rattle.iso_locks.specs.Slots.{Slots, slot}
-use Rattle.iso_locks.specs.Trays.{SavepointView, TrayView, kept, marked, start_at}
+use Rattle.iso_locks.specs.Trays.{SavepointView, TrayView, kept, marked, may_write, start_at}
 use Rattle.iso_locks.specs.declared.starting.Starting.{Starting}
+use Rattle.iso_locks.proofs.KeptLemmas.{nothing-kept}
 use Rattle.iso_locks.proofs.TouchLemmas.{count-of, keys-of}
 use Rattle.iso_locks.proofs.tray.Tray.mark.Goals as goal
 
@@ -25,10 +25,18 @@ pub of-requires : goal.of-requires
 of-requires c =
     ap length c.in_ok-starts.ensures ∙ count-of (tree_of c.self.inside.plan.now) c.self.inside.world.now c.self.inside.starts c.self.invariant.starts_are ∙ sym c.self.invariant.values_fit
 
+pub returns-then-has_none : goal.returns-then-has_none
+returns-then-has_none c =
+    let tree = tree_of c.self.inside.plan.now in
+    let n = c.args.node in
+    let marks : Slots → SavepointView = λ vs. record { node = n; values = vs } in
+    let none = c.has_none.ensures c.if-has_none.true in
+    ap marks (c.of-then.ensures ∙ nothing-kept c.self.inside.values (may_write tree n) none) ∙ ap (λ (t : TrayView). marked t n) c.self.view_is
+
 pub returns : goal.returns
 returns c =
     let tree = tree_of c.self.inside.plan.now in
-    let is = kept-is tree c.self.inside.world.now c.self.inside.starts c.in_ok-starts.starts c.rights-rights.result.now c.self.inside.values c.args.node c.self.invariant.starts_are
-    c.in_ok-starts.ensures c.rights-rights.ensures in
+    let is = kept-is tree c.self.inside.world.now c.self.inside.starts c.in_ok-starts.starts c.rights.result.now c.self.inside.values c.args.node c.self.invariant.starts_are
+    c.in_ok-starts.ensures c.rights.ensures in
     let marks : Slots → SavepointView = λ vs. record { node = c.args.node; values = vs } in
-    IfOk-weaker c.of.result _ _ (λ m h. h ∙ ap marks is ∙ ap (λ (t : TrayView). marked t c.args.node) c.self.view_is) c.of.ensures
+    ap marks (c.in_ok-kept.ensures ∙ is) ∙ ap (λ (t : TrayView). marked t c.args.node) c.self.view_is

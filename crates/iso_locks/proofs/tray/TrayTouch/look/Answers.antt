@@ -1,4 +1,4 @@
-use Rattle.std.proofs.Common.{◌≡◌, ℕ, ◌<◌, List, length, Some, None, ap, sym, ◌∙◌, subst, arith}
+use Rattle.std.proofs.Common.{◌≡◌, ◌<◌, length, Some, None, ap, sym, ◌∙◌, subst, arith}
 use Rattle.iso_model.specs.ResourceKeys.{spelling}
 use Rattle.iso_model.specs.Touch.{HasKind, answered, kind_of_ask}
 use Rattle.iso_plan.specs.KeyTable.{keys}

@@ -1,9 +1,10 @@
-use Rattle.std.proofs.Common.{ap, sym, subst, ◌∙◌}
+use Rattle.std.proofs.Common.{Option, None, cond, ap, sym, subst, ◌∙◌}
+use Rattle.iso_model.specs.Rights.{is_writable}
+use Rattle.iso_model.specs.declared.access.Access.{Access}
 use Rattle.iso_locks.proofs.KeptLemmas.{same-kept}
 use Rattle.iso_locks.specs.Kept.{KeepsMark, kept_by}
-use Rattle.iso_locks.specs.Slots.{Slots}
-use Rattle.iso_locks.specs.Trays.{SavepointView}
-use Rattle.iso_locks.proofs.tray.Savepoint.of.Goals as goal
+use Rattle.iso_locks.specs.Slots.{Slots, slot}
+use Rattle.iso_locks.proofs.kept.KeptValues.of.Goals as goal
 
 pub invariant_of-result : goal.invariant_of-result
 invariant_of-result c =
@@ -18,5 +19,7 @@ invariant_of-result c =
 
 pub returns : goal.returns
 returns c =
-    let named : Slots → SavepointView = λ vs. record { node = c.args.node; values = vs } in
-    ap named (ap (kept_by c.in_ok-rights.rights c.args.starts) c.of.ensures ∙ same-kept c.in_ok-rights.rights c.args.rights.now c.args.starts c.args.values.now c.in_ok-rights.ensures)
+    let values = c.args.values.now in
+    ap (kept_by c.in_ok-rights.rights c.args.starts) c.of.ensures
+    ∙ same-kept c.in_ok-rights.rights c.args.rights.now c.args.starts values
+    (λ i k. ap (λ (a : Option Access). cond (is_writable a) (slot values i) None) (c.in_ok-rights.ensures k))
