@@ -2,16 +2,21 @@
 use Rattle.std.proofs.Common.{◌≡◌, ◌≢◌, ℕ, zero, suc, ◌+◌, ◌<◌, ◌≤◌, List, [], ◌∷◌, ◌++◌, length, map, take, Option, Some, None, Bool, true, false, ◌||◌, ◌&&◌, ◌==◌, cond, get_or, set, ap, ap₂, sym, ◌∙◌, arith, refl}
 use Rattle.std.specs.Option.{option_or}
 use Rattle.std.proofs.lemmas.List.{get_or_default, get_or-set_same, get_or-set_other, length-set, length-map, take_all, take_more}
+use Rattle.iso_model.specs.Rights.{is_writable}
 use Rattle.iso_model.specs.declared.access.Access.{Access}
+use Rattle.iso_model.specs.declared.access.Access.TheVariants.{Read, Write}
 use Rattle.iso_plan.proofs.ColumnLemmas.{column-from, length-column}
+use Rattle.iso_plan.proofs.LeadLemmas.{lead-takes}
 use Rattle.iso_plan.proofs.PathLemmas.{eq_from, eq_same}
+use Rattle.iso_plan.specs.HeldNodes.{is_access, takes_in}
 use Rattle.iso_plan.specs.KeyTable.{keys}
 use Rattle.iso_plan.specs.Locks.{is_write, locks, locks_from, taken}
 use Rattle.iso_plan.specs.Tree.{Row}
 use Rattle.iso_plan.specs.declared.lock.Lock.{Lock}
 use Rattle.iso_store.specs.Histories.{History}
-use Rattle.iso_locks.specs.Moves.{AreWithin, is_written, moved_away, moved_here, put_here, taken_away, writes_key}
+use Rattle.iso_locks.specs.Moves.{AreAllWritten, AreWithin, is_written, moved_away, moved_here, put_here, taken_away, writes_key}
 use Rattle.iso_locks.specs.Slots.{Slots, slot}
+use Rattle.iso_locks.specs.Vaults.{IsOneGroup}
 
 or-push : (a b c : Bool) → (a || (b || c)) ≡ ((a || b) || c)
 or-push true b c = refl
@@ -125,3 +130,48 @@ here-count ls there here next e = ap length e ∙ length-column (λ i. cond (is_
 
 pub there-count : (ls : List Lock) (there next : Slots) → next ≡ moved_away ls there → length next ≡ length there
 there-count ls there next e = ap length e ∙ length-column (λ i. cond (is_written ls i) None (slot there i)) (length there)
+
+or-right : (a b : Bool) → b ≡ true → (a || b) ≡ true
+or-right true b e = refl
+or-right false b e = e
+
+-- what one of the locks is on is written
+pub written-at : (ls : List Lock) (n i : ℕ) (l : Lock) → n < length ls → l ≡ get_or ls n l → writes_key l i ≡ true → is_written ls i ≡ true
+written-at [] n i l h at e = absurd (omega arith)
+written-at (m ∷ ms) zero i l h at e = ap (λ (x : Lock). writes_key x i || is_written ms i) (sym at) ∙ ap (λ (b : Bool). b || is_written ms i) e
+written-at (m ∷ ms) (suc n) i l h at e = let less : n < length ms = omega arith in or-right (writes_key m i) (is_written ms i) (written-at ms n i l less at e)
+
+by_all : (w : Bool) (t h : Option History) → w ≡ true → h ≡ None → t ≡ cond w (option_or t h) h
+by_all true None h e none = sym none
+by_all true (Some v) h e none = refl
+by_all false t h e none = absurd (cc)
+
+by_away : (w : Bool) (t : Option History) → w ≡ true → None ≡ cond w None t
+by_away true t e = refl
+by_away false t e = absurd (cc)
+
+-- all values move to where none is
+pub all-here : (ls : List Lock) (there here : Slots) → length there ≡ length here → ((i : ℕ) → slot here i ≡ None) → AreAllWritten (length there) ls
+    → there ≡ moved_here ls there here
+all-here ls there here fits none all =
+    column-from (λ i. cond (is_written ls i) (option_or (slot there i) (slot here i)) (slot here i)) there (length here) fits
+    (λ i d h. let within : i < length there = omega (arith, fits, h) in get_or_default there i d None within ∙ by_all (is_written ls i) (slot there i) (slot here i) (all i within) (none i))
+
+pub all-away : (ls : List Lock) (there here : Slots) → length there ≡ length here → ((i : ℕ) → slot here i ≡ None) → AreAllWritten (length there) ls
+    → here ≡ moved_away ls there
+all-away ls there here fits none all =
+    column-from (λ i. cond (is_written ls i) None (slot there i)) here (length there) (sym fits)
+    (λ i d h. let within : i < length here = omega (arith, fits, h) in get_or_default here i d None within ∙ none i ∙ by_away (is_written ls i) (slot there i) (all i h))
+
+write-access : (a : Access) → is_access Write a ≡ is_writable (Some a)
+write-access Read = refl
+write-access Write = refl
+
+written-takes : (ls : List Lock) (i : ℕ) → takes_in Write i ls ≡ is_written ls i
+written-takes [] i = refl
+written-takes (l ∷ ls) i = ap₂ (λ (a b : Bool). (l.key == i && a) || b) (write-access l.access) (written-takes ls i)
+
+-- a node that takes the first key of one group for READ_WRITE takes all keys so
+pub all-written : (tree : List Row) (n : ℕ) → n < length tree → IsOneGroup tree → is_written (locks tree n) 0 ≡ true → AreAllWritten (length (keys tree)) (locks tree n)
+all-written tree n h one first i below =
+    sym (written-takes (locks tree n) i) ∙ lead-takes tree n i Write h ∙ ap (λ (k : ℕ). takes_in Write k (locks tree n)) (one i below) ∙ written-takes (locks tree n) 0 ∙ first

@@ -1,6 +1,5 @@
 -- The number of a key, found from the last one down.
-use Rattle.std.proofs.Common.{◌≡◌, ℕ, zero, suc, ◌<◌, List, [], length, map, Option, Some, Bool, true, false, cond, bytes_eq, get_or, ap, sym, ◌∙◌, arith, refl}
-use Rattle.std.proofs.lemmas.List.{get_or-map}
+use Rattle.std.proofs.Common.{◌≡◌, ℕ, zero, suc, ◌<◌, List, [], Option, Some, Bool, true, false, cond, bytes_eq, get_or, ap, sym, ◌∙◌, arith, refl}
 use Rattle.std.proofs.lemmas.Slice.Eq.{bytes_eq-Decides}
 use Rattle.iso_plan.specs.KeyNumbers.{number_below}
 use Rattle.iso_locks.specs.declared.starting.Starting.{Starting}

@@ -46,7 +46,7 @@ lent_sent : (a : NamedLft) → IsSend (lent.the_row a)
 lent_sent a = search (declared_send (lent_inside.the_type a) (search held, (search held, (search (lockers_sent, held), tt))), sendable)
 
 pub vault_sent : (a : NamedLft) → IsSend (vault.the_row a)
-vault_sent a = search (declared_send (vault_inside.the_type a) (search held, (search held, (search held, (search held, tt)))), sendable)
+vault_sent a = search (declared_send (vault_inside.the_type a) (search held, (search held, (search held, (search held, (search held, tt))))), sendable)
 
 pub tray_sent : (a : NamedLft) → IsSend (tray.the_row a)
 tray_sent a =

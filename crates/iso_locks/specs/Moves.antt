@@ -1,5 +1,5 @@
 -- What moves between slots of the same numbers when locks for READ_WRITE are taken and let go.
-use Rattle.std.specs.Prelude.{ℕ, ◌<◌, List, [], ◌∷◌, length, None, Bool, false, ◌||◌, ◌&&◌, ◌==◌, cond, slice_set}
+use Rattle.std.specs.Prelude.{◌≡◌, ℕ, ◌<◌, List, [], ◌∷◌, length, None, Bool, true, false, ◌||◌, ◌&&◌, ◌==◌, cond, slice_set}
 use Rattle.std.specs.Option.{option_or}
 use Rattle.iso_plan.specs.Locks.{is_write}
 use Rattle.iso_plan.specs.Paths.{column}
@@ -38,3 +38,7 @@ taken_away l there = cond (is_write l) (slice_set there l.key None) there
 abbrev pub AreWithin : ℕ → List Lock → Type 0
 AreWithin n [] = Unit {0}
 AreWithin n (l ∷ ls) = (l.key < n) × AreWithin n ls
+
+-- some locks are for READ_WRITE on each of the first n keys
+abbrev pub AreAllWritten : ℕ → List Lock → Type 0
+AreAllWritten n locks = (i : ℕ) → i < n → is_written locks i ≡ true

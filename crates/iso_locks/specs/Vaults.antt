@@ -8,12 +8,14 @@ use Rattle.std.specs.Prelude.{◌≡◌, ℕ, ◌<◌, List, length, replicate, 
 use Rattle.std.specs.Coded.{Coded, code_by, coded×, coded_list, coded_bool}
 use Rattle.iso_model.specs.declared.resource.Resource.{Resource}
 use Rattle.iso_plan.specs.HeldNodes.{HeldView}
+use Rattle.iso_plan.specs.KeyGroups.{lead}
 use Rattle.iso_plan.specs.KeyTable.{keys}
 use Rattle.iso_plan.specs.Conflicts.{lowest_in_the_way}
 use Rattle.iso_plan.specs.Locks.{locks}
 use Rattle.iso_plan.specs.Paths.{column}
 use Rattle.iso_plan.specs.Planned.{Planned}
 use Rattle.iso_plan.specs.RowView.{tree_of}
+use Rattle.iso_plan.specs.Tree.{Row}
 use Rattle.iso_plan.specs.contracts.plan.Plan as plan
 use Rattle.iso_settings.specs.Worlds.{Start, start_code, starting_value_in}
 use Rattle.iso_store.specs.Histories.{History}
@@ -159,8 +161,14 @@ pub record IsVault (planned : Planned) (start : Start) (given : List Bool)
       → h.now ≡ starting_value_in start (key_at (tree_of planned) i)
   pub away : (i : ℕ) → i < length values → slot values i ≡ None → IsOwned (tree_of planned) given i
 
--- the same of all that it keeps: the nodes that it keeps as held are of its plan
-pub record KeepsVault (planned : Planned) (start : Start) (given : HeldView)
+-- each node takes all keys alike, or none of them: the first key leads all
+abbrev pub IsOneGroup : List Row → Type 0
+IsOneGroup tree = (i : ℕ) → i < length (keys tree) → lead tree i ≡ 0
+
+-- the same of all that it keeps: the nodes that it keeps as held are of its plan, and it knows
+-- whether the keys are one group
+pub record KeepsVault (planned : Planned) (start : Start) (given : HeldView) (is_one_group : Bool)
     (values : Slots) : Type 0 where
   pub lent_of : given.plan ≡ planned
+  pub one_group : is_one_group ≡ true → IsOneGroup (tree_of planned)
   pub lists : IsVault planned start given.held values

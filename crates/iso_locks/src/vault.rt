@@ -1,13 +1,16 @@
 //! The values that no worker holds.
 ghost use Rattle.std.specs.Prelude.{◌≡◌, ◌<◌, ℕ, IfOk, MatchResult, None, OnErr, OnOk, Some, is_some, length, map, replicate, true};
+ghost use Rattle.iso_locks.specs.Moves.{AreAllWritten};
 ghost use Rattle.iso_locks.specs.Slots.{slot};
 ghost use Rattle.iso_locks.specs.Trays.{is_lent, key_at};
-ghost use Rattle.iso_locks.specs.Vaults.{CanLend, CanTakeBack, IsLentTo, busy, giving_back, is_home, lending, regaining, whole_vault};
+ghost use Rattle.iso_locks.specs.Vaults.{CanLend, CanTakeBack, IsLentTo, IsOneGroup, busy, giving_back, is_home, lending, regaining, whole_vault};
 ghost use Rattle.iso_plan.specs.KeyTable.{keys};
+ghost use Rattle.iso_plan.specs.Locks.{locks};
 ghost use Rattle.iso_plan.specs.RowView.{tree_of};
 ghost use Rattle.iso_settings.specs.Worlds.{starting_value_in};
 ghost use Rattle.iso_store.specs.Histories.{History};
 
+use crate::moves::write_first;
 use crate::slots::Slots;
 use crate::tray::Tray;
 use iso_model::key::Key;
@@ -32,6 +35,8 @@ pub struct Vault<'a> {
     plan: &'a Plan,
     world: &'a World,
     lent: HeldNodes<'a>,
+    /// Whether each node takes all keys alike, or none of them.
+    is_one_group: bool,
     values: Slots,
 }
 
@@ -50,7 +55,8 @@ impl<'a> Model for Vault<'a> {
       home = map is_some v.values;
     } };
 
-    ghost invariant = { λ v. KeepsVault v.plan.now v.world.now v.lent v.values };
+    ghost invariant = { λ v. KeepsVault v.plan.now v.world.now v.lent v.is_one_group
+        v.values };
 }
 
 impl<'a> Vault<'a> {
@@ -63,6 +69,7 @@ impl<'a> Vault<'a> {
             plan,
             world,
             lent: HeldNodes::new(alloc, plan)?,
+            is_one_group: is_one_group(plan),
             values: values(alloc, plan, world)?,
         })
     }
@@ -123,8 +130,9 @@ impl<'a> Vault<'a> {
         ensures tray { IsLentTo node tray.old tray.new }
     {
         let locks = self.plan.locks(node);
+        let all = self.takes_all(node);
         self.lent.hold(node);
-        tray.receive(node, locks, &mut self.values);
+        tray.receive(node, locks, all, &mut self.values);
     }
 
     /// Takes a node back from a tray: what it takes for READ_WRITE comes home. Takes no memory.
@@ -134,8 +142,22 @@ impl<'a> Vault<'a> {
         ensures tray { tray.new ≡ giving_back node tray.old }
     {
         let locks = self.plan.locks(node);
+        let all = self.takes_all(node);
         self.lent.release(node);
-        tray.give_back(node, locks, &mut self.values);
+        tray.give_back(node, locks, all, &mut self.values);
+    }
+
+    /// Whether it is known that a node takes every key for READ_WRITE: it takes the first one so,
+    /// and all others alike.
+    fn takes_all(&self, node: u32) -> bool
+        requires { node < length self.now.plan.rows }
+        ensures { result ≡ true → AreAllWritten (length (keys (tree_of self.now.plan)))
+            (locks (tree_of self.now.plan) node) }
+    {
+        if !self.is_one_group {
+            return false;
+        }
+        write_first(self.plan.locks(node))
     }
 }
 
@@ -151,6 +173,18 @@ impl<'a> Holders for Vault<'a> {
     fn is_held(&self, node: u32) -> bool {
         self.is_lent(node)
     }
+}
+
+/// Whether each node of a plan takes all keys alike, or none of them.
+fn is_one_group(plan: &Plan) -> bool
+    ensures { result ≡ true → IsOneGroup (tree_of plan.now) }
+{
+    'keys: for key in 0..plan.key_count() {
+        if plan.lead(key) != 0 {
+            return false;
+        }
+    }
+    true
 }
 
 /// All values of a plan at their start, by key number.

@@ -1,8 +1,8 @@
-use Rattle.std.proofs.Common.{◌<◌, ◌≤◌, List, length, slice_index_or, arith}
+use Rattle.std.proofs.Common.{◌<◌, ◌≤◌, List, length, slice_index_or, arith, ◌∙◌}
 use Rattle.std.proofs.lemmas.List.{get_or_default}
 use Rattle.iso_model.specs.declared.access.Access.TheVariants.{Read}
 use Rattle.iso_plan.specs.declared.lock.Lock.{Lock}
-use Rattle.iso_locks.proofs.MoveLemmas.{moving-all, moving-more, within-at}
+use Rattle.iso_locks.proofs.MoveLemmas.{all-away, all-here, moving-all, moving-more, within-at}
 use Rattle.iso_locks.proofs.moves.move_values.Goals as goal
 
 abbrev no_lock : Lock
@@ -51,3 +51,11 @@ pub returns-clause-there : goal.returns-clause-there
 returns-clause-there c =
     let all : length c.args.locks.now ≤ c.locks.n = omega arith in
     (moving-all c.args.there.now c.args.here.now c.args.locks.now c.locks.n c.locks.there c.locks.here all c.locks.invariant).0
+
+pub returns-then-has_none-clause-here : goal.returns-then-has_none-clause-here
+returns-then-has_none-clause-here c =
+    c.swap.ensures.y_after ∙ all-here c.args.locks.now c.args.there.now c.args.here.now c.requires.fits (c.has_none.ensures c.if-has_none.true) (c.requires.all c.if-all.true)
+
+pub returns-then-has_none-clause-there : goal.returns-then-has_none-clause-there
+returns-then-has_none-clause-there c =
+    c.swap.ensures.x_after ∙ all-away c.args.locks.now c.args.there.now c.args.here.now c.requires.fits (c.has_none.ensures c.if-has_none.true) (c.requires.all c.if-all.true)

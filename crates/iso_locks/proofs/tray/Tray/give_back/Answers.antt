@@ -1,4 +1,4 @@
-use Rattle.std.proofs.Common.{◌≡◌, ◌<◌, ℕ, List, length, set, true, false, ap, sym, ◌∙◌, subst}
+use Rattle.std.proofs.Common.{◌≡◌, ◌<◌, ℕ, List, length, set, true, false, ap, sym, ◌∙◌, subst, arith}
 use Rattle.std.specs.Vec.{vec_capacity}
 use Rattle.std.proofs.lemmas.List.{length-set}
 use Rattle.iso_plan.specs.HeldNodes.{HeldView}
@@ -49,3 +49,8 @@ pub take_back-requires-clause-node : goal.take_back-requires-clause-node
 take_back-requires-clause-node c =
     let n = c.args.node in
     subst (λ (p : Planned). n < length p.rows) (sym c.self.invariant.lent_of) (subst (λ (t : TrayView). n < length t.plan.rows) (sym c.self.view_is) c.requires.node)
+
+pub move_values-requires-clause-all : goal.move_values-requires-clause-all
+move_values-requires-clause-all c =
+    let same : length c.args.home.now ≡ length c.self.inside.values = c.requires.home ∙ ap (λ (t : TrayView). length (keys (tree_of t.plan))) (sym c.self.view_is) ∙ sym c.self.invariant.values_fit in
+    λ e i below. c.requires.all e i (omega (arith, below, same))

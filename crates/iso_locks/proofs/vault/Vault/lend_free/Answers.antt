@@ -1,11 +1,13 @@
 use Rattle.std.proofs.Common.{◌≡◌, ◌<◌, List, length, map, set, None, Bool, true, is_some, ap, sym, ◌∙◌, subst, arith}
 use Rattle.iso_plan.specs.Conflicts.{lowest_in_the_way}
 use Rattle.iso_plan.specs.HeldNodes.{HeldView}
+use Rattle.iso_plan.specs.KeyTable.{keys}
 use Rattle.iso_plan.specs.Locks.{locks}
 use Rattle.iso_plan.specs.Planned.{Planned}
 use Rattle.iso_plan.specs.RowView.{tree_of}
+use Rattle.iso_plan.specs.declared.lock.Lock.{Lock}
 use Rattle.iso_settings.specs.Worlds.{Start}
-use Rattle.iso_locks.specs.Moves.{is_written, moved_away}
+use Rattle.iso_locks.specs.Moves.{AreAllWritten, is_written, moved_away}
 use Rattle.iso_locks.specs.Slots.{Slots}
 use Rattle.iso_locks.specs.Trays.{TrayView, is_lent}
 use Rattle.iso_locks.specs.Vaults.{IsLentTo, IsVault, VaultView, busy, lending}
@@ -24,6 +26,7 @@ invariant_of-self c =
     let P : Slots → Type 0 = λ h. IsVault plan c.self.inside.world.now (set c.self.inside.lent.held c.args.node true) h in
     record {
       lent_of = ap (λ (h : HeldView). h.plan) c.hold.ensures ∙ c.self.invariant.lent_of;
+      one_group = c.self.invariant.one_group;
       lists =
           subst (λ (h : HeldView). IsVault plan c.self.inside.world.now h.held c.receive.new.home) (sym c.hold.ensures)
           (subst P (sym moved) (lent-vault plan c.self.inside.world.now c.self.inside.lent.held c.self.inside.values c.args.node node c.self.invariant.lists));
@@ -77,3 +80,11 @@ pub hold-requires : goal.hold-requires
 hold-requires c =
     let n = c.args.node in
     subst (λ (p : Planned). n < length p.rows) (sym c.self.invariant.lent_of) (subst (λ (v : VaultView). n < length v.plan.rows) (sym c.self.view_is) c.requires.can.node)
+
+pub receive-requires-clause-all : goal.receive-requires-clause-all
+receive-requires-clause-all c =
+    let n = c.args.node in
+    let All : VaultView → Type 0 = λ v. AreAllWritten (length (keys (tree_of v.plan))) (locks (tree_of v.plan) n) in
+    λ e i below.
+    let all = subst All (sym c.self.view_is) (c.takes_all-all.ensures e) in
+    ap (λ (ls : List Lock). is_written ls i) c.locks-locks.ensures.locks ∙ all i (omega (arith, below, c.self.invariant.lists.values_fit))

@@ -16,6 +16,7 @@ none-away values n i e h none =
 pub invariant_of-result : goal.invariant_of-result
 invariant_of-result c = record {
   lent_of = ap (λ (h : HeldView). h.plan) c.in_ok-new.ensures;
+  one_group = c.is_one_group.ensures;
   lists = record {
     lent_fits = ap (λ (h : HeldView). length h.held) c.in_ok-new.ensures ∙ length-replicate (length c.args.plan.now.rows) false;
     values_fit = count c.in_ok-values.field-0 _ c.in_ok-values.ensures.fits;

@@ -4,8 +4,9 @@ use Rattle.iso_plan.specs.KeyTable.{keys}
 use Rattle.iso_plan.specs.Locks.{locks}
 use Rattle.iso_plan.specs.Planned.{Planned}
 use Rattle.iso_plan.specs.RowView.{tree_of}
+use Rattle.iso_plan.specs.declared.lock.Lock.{Lock}
 use Rattle.iso_settings.specs.Worlds.{Start, starting_value_in}
-use Rattle.iso_locks.specs.Moves.{is_written, moved_here}
+use Rattle.iso_locks.specs.Moves.{AreAllWritten, is_written, moved_here}
 use Rattle.iso_locks.specs.Slots.{Slots}
 use Rattle.iso_locks.specs.Trays.{TrayView, key_at}
 use Rattle.iso_locks.specs.Vaults.{IsVault, StandsAtStart, VaultView, regaining}
@@ -29,6 +30,7 @@ invariant_of-self c =
     let T : Planned → Type 0 = λ p. IsVault p c.self.inside.world.now (set c.self.inside.lent.held n false) c.give_back.new.home in
     record {
       lent_of = ap (λ (h : HeldView). h.plan) c.release.ensures ∙ c.self.invariant.lent_of;
+      one_group = c.self.invariant.one_group;
       lists =
           subst (λ (h : HeldView). IsVault c.self.inside.plan.now c.self.inside.world.now h.held c.give_back.new.home) (sym c.release.ensures)
           (subst T plan (subst S world (subst R (sym c.give_back.ensures.home) back)));
@@ -55,3 +57,11 @@ pub release-requires : goal.release-requires
 release-requires c =
     let n = c.args.node in
     subst (λ (p : Planned). n < length p.rows) (sym c.self.invariant.lent_of) (subst (λ (v : VaultView). n < length v.plan.rows) (sym c.self.view_is) c.requires.node)
+
+pub give_back-requires-clause-all : goal.give_back-requires-clause-all
+give_back-requires-clause-all c =
+    let n = c.args.node in
+    let All : VaultView → Type 0 = λ v. AreAllWritten (length (keys (tree_of v.plan))) (locks (tree_of v.plan) n) in
+    λ e i below.
+    let all = subst All (sym c.self.view_is) (c.takes_all-all.ensures e) in
+    ap (λ (ls : List Lock). is_written ls i) c.locks-locks.ensures.locks ∙ all i (omega (arith, below, c.self.invariant.lists.values_fit))
