@@ -212,10 +212,7 @@ impl<'a> Body<'a> {
             ..
         } = self;
         laws::chains_grow_down(origin.plan);
-        let mut run = run;
-        let end = run.finish();
-        // What no end keeps is dropped by calls: its parts then stand in the proofs of those alone.
-        drop(run);
+        let end = Box::into_inner(run).finish();
         match origin.kind {
             BodyKind::BeforeAll => {
                 let Some(frame) = frame else {
@@ -225,6 +222,7 @@ impl<'a> Body<'a> {
                 origin.done(What::Opened(opening))
             }
             BodyKind::Test => {
+                // A call drops it: its parts then stand in the proof of that call alone.
                 drop(frame);
                 let outcome = KeptOutcome::new(end.endings.into_others(), end.output);
                 origin.done(What::Tested(outcome))

@@ -26,7 +26,6 @@ use iso_model::text::Text;
 use iso_model::touch::Touch;
 use iso_model::tree::Stmt;
 use std::alloc::{AllocError, Global};
-use std::mem;
 use std::sync::Arc;
 
 /// What an ended body leaves: the endings of the blocks that were done, in order, and the lines
@@ -261,18 +260,23 @@ impl<'a> BodyRun<'a> {
         self.block.is_none()
     }
 
-    /// What the body leaves, once it has ended; its run is only dropped then. Takes no memory.
-    pub(crate) fn finish(&mut self) -> BodyEnd
-        requires { is_ended (stage_of self.old) ≡ true }
-        ensures { stage_of self.old ≡ ended (end_account result (account_in_run self.old)) }
+    /// What the body leaves, once it has ended. Takes no memory.
+    #[inline(always)]
+    pub(crate) fn finish(self) -> BodyEnd
+        requires { is_ended (stage_of self) ≡ true }
+        ensures { stage_of self.entry ≡ ended (end_account result (account_in_run self.entry)) }
     {
-        let rest = &mut self.rest;
-        let alloc = rest.alloc;
-        let mut output = mem::replace(&mut rest.lines, Lines::new(alloc));
+        let BodyRun { rest, block } = self;
+        // No block is under way, so the memory of one is neither copied nor looked through.
+        let None = block else {
+            unreachable!();
+        };
+        let mut output = rest.lines;
         // What a body came to is kept until the end of the run.
         output.shrink_to_fit();
+        drop(rest.names);
         BodyEnd {
-            endings: mem::replace(&mut rest.endings, Endings::new(alloc)),
+            endings: rest.endings,
             output,
         }
     }

@@ -334,11 +334,11 @@ fn put<'a>(block: &mut Option<BlockRun<'a>>, run: BlockRun<'a>)
     requires { block.old ≡ None }
     ensures { block.new ≡ Some run.entry }
 {
-    if block.is_some() {
-        // So the compiler sees that there is nothing to drop.
+    // So the compiler sees that there is nothing to drop.
+    let before = block.replace(run);
+    let None = before else {
         unreachable!();
-    }
-    *block = Some(run);
+    };
 }
 
 /// Puts lines behind others. Where there are none yet, as in most bodies, they are not copied.

@@ -4,7 +4,6 @@ use Rattle.iso_model.specs.Statements.{is_well}
 use Rattle.iso_model.specs.Verdicts.{verdict}
 use Rattle.iso_lifecycle.specs.BodyRuns.{account_in_run, end_account, stage_of}
 use Rattle.iso_lifecycle.specs.Ends.{IsOpening}
-use Rattle.iso_lifecycle.specs.declared.body_run.BodyRun.{BodyRun}
 use Rattle.iso_lifecycle.specs.declared.done.Opened as Openings
 use Rattle.iso_lifecycle.specs.OriginViews.{subject_of_origin}
 use Rattle.iso_lifecycle.specs.Origins.{HasCome, HasLeft, done_whole}
@@ -19,8 +18,8 @@ done-requires-clause-end c =
     let b = c.args.self in
     let o = b.origin in
     let s = subject_of_origin o in
-    let a = end_account c.finish-end.result (account_in_run b.run.value) in
-    let stage : stage_of b.run.value ≡ ended a = subst (λ (r : BodyRun). stage_of r ≡ ended (end_account c.finish-end.result (account_in_run r))) c.deref_mut.ensures.value c.finish-end.ensures in
+    let a = end_account c.finish-end.result (account_in_run c.into_inner.result) in
+    let stage : stage_of b.run.value ≡ ended a = ap stage_of (sym c.into_inner.ensures) ∙ c.finish-end.ensures in
     let grows : Grows s = c.chains_grow_down.ensures o.node o.inner in
     let class : IsOfClass s = subst (λ (k : BodyKind). is_kind_of k (node_kind s) ≡ true) c.in-BeforeAll.is o.fits in
     let come : a ≡ account_of (done_whole BeforeAll s) = subst (λ (k : BodyKind). HasCome k s (ended a)) c.in-BeforeAll.is (subst (λ (g : Stage). HasCome o.kind s g) stage b.come) in
@@ -41,8 +40,8 @@ done-requires-in-Test-clause-end c =
     let b = c.args.self in
     let o = b.origin in
     let s = subject_of_origin o in
-    let a = end_account c.finish-end.result (account_in_run b.run.value) in
-    let stage : stage_of b.run.value ≡ ended a = subst (λ (r : BodyRun). stage_of r ≡ ended (end_account c.finish-end.result (account_in_run r))) c.deref_mut.ensures.value c.finish-end.ensures in
+    let a = end_account c.finish-end.result (account_in_run c.into_inner.result) in
+    let stage : stage_of b.run.value ≡ ended a = ap stage_of (sym c.into_inner.ensures) ∙ c.finish-end.ensures in
     let grows : Grows s = c.chains_grow_down.ensures o.node o.inner in
     let fits : is_kind_of Test (node_kind s) ≡ true = subst (λ (k : BodyKind). is_kind_of k (node_kind s) ≡ true) c.in-Test.is o.fits in
     let come : a ≡ account_of (done_whole Test s) = subst (λ (k : BodyKind). HasCome k s (ended a)) c.in-Test.is (subst (λ (g : Stage). HasCome o.kind s g) stage b.come) in
@@ -54,8 +53,8 @@ done-requires-in-AfterAll-clause-end c =
     let b = c.args.self in
     let o = b.origin in
     let s = subject_of_origin o in
-    let a = end_account c.finish-end.result (account_in_run b.run.value) in
-    let stage : stage_of b.run.value ≡ ended a = subst (λ (r : BodyRun). stage_of r ≡ ended (end_account c.finish-end.result (account_in_run r))) c.deref_mut.ensures.value c.finish-end.ensures in
+    let a = end_account c.finish-end.result (account_in_run c.into_inner.result) in
+    let stage : stage_of b.run.value ≡ ended a = ap stage_of (sym c.into_inner.ensures) ∙ c.finish-end.ensures in
     let grows : Grows s = c.chains_grow_down.ensures o.node o.inner in
     let class : IsOfClass s = closes-class (node_kind s) (subst (λ (k : BodyKind). is_kind_of k (node_kind s) ≡ true) c.in-AfterAll.is o.fits) in
     let come : a ≡ account_of (done_whole AfterAll s) = subst (λ (k : BodyKind). HasCome k s (ended a)) c.in-AfterAll.is (subst (λ (g : Stage). HasCome o.kind s g) stage b.come) in
