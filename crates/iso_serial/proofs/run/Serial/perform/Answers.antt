@@ -1,8 +1,8 @@
-use Rattle.std.proofs.Common.{◌≡◌, ℕ, ◌<◌, List, length, ap, sym, subst, ◌∙◌}
+use Rattle.std.proofs.Common.{◌≡◌, ℕ, ◌<◌, List, length, Option, ap, sym, subst, ◌∙◌}
 use Rattle.iso_lifecycle.proofs.WholeBodies.{stands-first}
 use Rattle.iso_lifecycle.specs.BodyViews.{Stands, kind_of_body, stage_of_body, subject_of}
 use Rattle.iso_lifecycle.specs.DoneViews.{DoneView}
-use Rattle.iso_lifecycle.specs.ResultViews.{AreOpened, CanPut, with_done}
+use Rattle.iso_lifecycle.specs.ResultViews.{AreOpened, CanPut, ResultsView, with_done}
 use Rattle.iso_lifecycle.specs.Subjects.{Subject, begun, rights_of_subject, subject}
 use Rattle.iso_lifecycle.specs.WholeBodies.{CanBegin, IsAfterBody}
 use Rattle.iso_lifecycle.specs.declared.kind.BodyKind.{BodyKind}
@@ -12,9 +12,9 @@ use Rattle.iso_plan.specs.Paths.{is_test, path, row_at}
 use Rattle.iso_plan.specs.Planned.{Planned}
 use Rattle.iso_plan.specs.RowView.{tree_of}
 use Rattle.iso_settings.specs.Worlds.{Start}
-use Rattle.iso_serial.proofs.TrayLemmas.{frames-apart}
+use Rattle.iso_serial.proofs.TrayLemmas.{frames-apart, frames-put}
 use Rattle.iso_serial.specs.OpenedTrays.{IsTrayAfter}
-use Rattle.iso_serial.specs.Walks.{innermost}
+use Rattle.iso_serial.specs.Walks.{HasFrames, innermost}
 use Rattle.iso_serial.proofs.run.Serial.perform.Goals as goal
 
 pub hand_path-requires-clause-plan : goal.hand_path-requires-clause-plan
@@ -39,7 +39,7 @@ begin-requires g c =
     let n = c.args.node in
     let k = c.args.kind in
     let handed : frames_on c.args.walk.now.results (innermost (tree_of plan) k n) ≡ c.frames-frames.result.now =
-    ap (frames_on c.args.walk.now.results) (sym c.innermost-class.ensures.is) ∙ ap (λ (t : TrayView). t.frames) (sym c.in_ok-hand_path.ensures.ok) ∙ sym c.frames-frames.ensures in
+    ap (frames_on c.args.walk.now.results) (sym c.innermost-class.ensures.is) ∙ ap (λ (t : TrayView). t.frames) (sym c.in_ok-hand_path.ensures.tray) ∙ sym c.frames-frames.ensures in
     let here = subst (λ (fs : List Subject). CanBegin (subject plan world n) k fs) handed c.requires.begins in
     subst (λ (w : Start). CanBegin (subject plan w n) k c.frames-frames.result.now) (sym c.of-start.ensures) here
 
@@ -49,7 +49,7 @@ run-requires-clause-keys g c =
     let n = c.args.node in
     let is_of : subject_of c.in_ok-body.body ≡ subject plan c.args.self.now.world.now n = c.in_ok-body.ensures.subject ∙ ap (λ (w : Start). subject plan w n) c.of-start.ensures in
     let here = subst (λ (s : Subject). HasKeys (rights_of_subject s) (content c.args.walk.now.tray) (has_value c.args.walk.now.tray)) (sym is_of) c.requires.ready.keys in
-    subst (λ (t : TrayView). HasKeys (rights_of_subject (subject_of c.in_ok-body.body)) (content t) (has_value t)) (sym c.in_ok-hand_path.ensures.ok) here
+    subst (λ (t : TrayView). HasKeys (rights_of_subject (subject_of c.in_ok-body.body)) (content t) (has_value t)) (sym c.in_ok-hand_path.ensures.tray) here
 
 pub run-requires-clause-stands : goal.run-requires-clause-stands
 run-requires-clause-stands g c =
@@ -61,7 +61,7 @@ run-requires-clause-stands g c =
     let started : subject plan c.of-start.result.value n ≡ s = ap (λ (w : Start). subject plan w n) c.of-start.ensures in
     let stage : stage_of_body b ≡ (begun k s).stage = c.in_ok-body.ensures.begun ∙ ap (λ (t : Subject). (begun k t).stage) started in
     let here = stands-first b k s (content c.args.walk.now.tray) (c.in_ok-body.ensures.subject ∙ started) c.in_ok-body.ensures.kind stage c.requires.ready.stands in
-    subst (λ (t : TrayView). Stands b (content t)) (sym c.in_ok-hand_path.ensures.ok) here
+    subst (λ (t : TrayView). Stands b (content t)) (sym c.in_ok-hand_path.ensures.tray) here
 
 -- a done is told by its subject and its kind
 done-is : (d : DoneView) (s : Subject) (k : BodyKind) → d.subject ≡ s → d.kind ≡ k → d ≡ record { subject = s; kind = k }
@@ -72,21 +72,22 @@ put-requires g c =
     let s = subject c.args.self.now.plan.now c.args.self.now.world.now c.args.node in
     let started = ap (λ (w : Start). subject c.args.self.now.plan.now w c.args.node) c.of-start.ensures in
     let is = done-is c.in_ok-done.done s c.args.kind (c.in_ok-done.ensures.subject ∙ c.in_ok-body.ensures.subject ∙ started) (c.in_ok-done.ensures.kind ∙ c.in_ok-body.ensures.kind) in
-    subst (λ (d : DoneView). CanPut d c.args.walk.now.results) (sym is) c.requires.put
+    let here = subst (λ (d : DoneView). CanPut d c.args.walk.now.results) (sym is) c.requires.put in
+    subst (λ (v : ResultsView). CanPut c.in_ok-done.done v) (sym c.hand_path.ensures.results) here
 
 pub returns-clause-results : goal.returns-clause-results
 returns-clause-results g c =
     let s = subject c.args.self.now.plan.now c.args.self.now.world.now c.args.node in
     let started = ap (λ (w : Start). subject c.args.self.now.plan.now w c.args.node) c.of-start.ensures in
     let is = done-is c.in_ok-done.done s c.args.kind (c.in_ok-done.ensures.subject ∙ c.in_ok-body.ensures.subject ∙ started) (c.in_ok-done.ensures.kind ∙ c.in_ok-body.ensures.kind) in
-    c.put.ensures ∙ ap (λ (d : DoneView). with_done d c.args.walk.now.results) is
+    c.put.ensures ∙ ap (with_done c.in_ok-done.done) c.hand_path.ensures.results ∙ ap (λ (d : DoneView). with_done d c.args.walk.now.results) is
 
 pub returns-clause-values : goal.returns-clause-values
 returns-clause-values g c =
     let plan = c.args.self.now.plan.now in
     let world = c.args.self.now.world.now in
     let n = c.args.node in
-    let old = c.hand_path.new.self in
+    let old = c.hand_path.new.self.tray in
     let new = c.run.new.touch in
     let is_of : subject_of c.in_ok-body.body ≡ subject plan world n = c.in_ok-body.ensures.subject ∙ ap (λ (w : Start). subject plan w n) c.of-start.ensures in
     let here = subst (λ (s : Subject). IsAfterBody s (kind_of_body c.in_ok-body.body) (content old) (content new)) is_of c.in_ok-done.ensures.values in
@@ -98,4 +99,18 @@ returns-clause-values g c =
       after = subst (λ (k : BodyKind). IsAfterBody (subject plan world n) k (content old) (content new)) c.in_ok-body.ensures.kind here;
     } in
     frames-apart plan world c.args.kind n c.args.walk.now.tray new (frames_on c.args.walk.now.results c.innermost-class.result)
-    (subst (λ (t : TrayView). IsTrayAfter plan world c.args.kind n t new) c.in_ok-hand_path.ensures.ok after)
+    (subst (λ (t : TrayView). IsTrayAfter plan world c.args.kind n t new) c.in_ok-hand_path.ensures.tray after)
+
+pub returns-clause-frames : goal.returns-clause-frames
+returns-clause-frames g c =
+    let n = c.args.node in
+    let v = c.args.walk.now.results in
+    let class = c.innermost-class.result in
+    let s = subject c.args.self.now.plan.now c.args.self.now.world.now n in
+    let started = ap (λ (w : Start). subject c.args.self.now.plan.now w n) c.of-start.ensures in
+    let is = done-is c.in_ok-done.done s c.args.kind (c.in_ok-done.ensures.subject ∙ c.in_ok-body.ensures.subject ∙ started) (c.in_ok-done.ensures.kind ∙ c.in_ok-body.ensures.kind) in
+    let put : c.put.new.self ≡ with_done (record { subject = s; kind = c.args.kind }) v =
+    c.put.ensures ∙ ap (with_done c.in_ok-done.done) c.hand_path.ensures.results ∙ ap (λ (d : DoneView). with_done d v) is in
+    let frames : c.run.new.touch.frames ≡ frames_on c.put.new.self class =
+    c.run.ensures.goes_on.frames ∙ ap (λ (t : TrayView). t.frames) c.in_ok-hand_path.ensures.tray ∙ sym (ap (λ (r : ResultsView). frames_on r class) put ∙ frames-put c.args.kind n class v) in
+    subst (λ (h : Option ℕ). HasFrames h c.run.new.touch c.put.new.self) (sym c.in_ok-hand_path.ensures.handed) frames
