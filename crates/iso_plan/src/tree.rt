@@ -29,7 +29,7 @@ pub(crate) fn written_tree(
     ensures full { IfErr result (IsFull most (length (written_tree (map script_of scripts.now)))) }
 {
     let mut rows = Vec::with_capacity(alloc, room_for(scripts, most))?;
-    rows.push(root(alloc))?;
+    rows.push(root(alloc)?)?;
     'scripts: for script in scripts {
         add_team(alloc, &mut rows, script, most)?;
     }
@@ -75,16 +75,16 @@ fn count_member(member: &Member) -> usize {
 }
 
 /// The root.
-fn root(alloc: Global) -> Row
-    ensures { row_of result ≡ root_row }
+fn root(alloc: Global) -> Result<Row, AllocError>
+    ensures { IfOk result (λ r. row_of r ≡ root_row) }
 {
-    Row {
+    Ok(Row {
         parent: 0,
         mode: None,
         kind: Kind::Root,
-        name: TreeText::of(Text::new(String::new(alloc))),
+        name: TreeText::copied(alloc, "")?,
         extras: None,
-    }
+    })
 }
 
 /// Adds a node. Inlined, so that its row is made where it stands.
@@ -242,7 +242,7 @@ fn top_row(alloc: Global, team: &Text, class: &Class) -> Result<Row, AllocError>
     Ok(Row {
         parent: 0,
         mode: class.mode,
-        name: TreeText::of(in_team(alloc, team, &class.name)?),
+        name: TreeText::copied(alloc, in_team(alloc, team, &class.name)?.as_str())?,
         extras: extras(
             alloc,
             &class.head.marks,
