@@ -21,11 +21,11 @@ pub(crate) fn add_expression(
     ensures { OnOk result (lines.new.items ≡ term_lines (term_of expression.now) lines.old.items) }
 {
     match expression {
-        Expr::Literal(_) | Expr::Name(_) | Expr::Locale => Ok(()),
-        Expr::Chain(operator, first, rest) => {
-            add_expression(alloc, lines, first)?;
-            add_expressions(alloc, lines, rest)?;
-            add_chain(alloc, lines, *operator, first, rest)
+        Expr::Whole(_) | Expr::Flag(_) | Expr::Text(_) | Expr::Name(_) | Expr::Locale => Ok(()),
+        Expr::Chain(operator, operands) => {
+            add_expression(alloc, lines, &operands.first)?;
+            add_expressions(alloc, lines, &operands.rest)?;
+            add_chain(alloc, lines, *operator, &operands.first, &operands.rest)
         }
         Expr::Compare(comparison, left, right) => {
             add_expression(alloc, lines, left)?;

@@ -1,9 +1,8 @@
 //! The kinds of operands, as far as the syntax shows them.
 ghost use Rattle.std.specs.Prelude.{◌≡◌};
-ghost use Rattle.iso_explain_block.specs.Kinds.{call_kind, chain_kind, is, is_hidden, is_other, kind_of, kind_words, literal_kind};
+ghost use Rattle.iso_explain_block.specs.Kinds.{call_kind, chain_kind, is, is_hidden, is_other, kind_of, kind_words};
 ghost use Rattle.iso_model.specs.SyntaxView.{term_of};
 
-use iso_model::data::Data;
 use iso_model::tree::{Expr, Function, Operator};
 
 /// The kind of a value.
@@ -21,23 +20,12 @@ pub(crate) fn kind_of(expression: &Expr) -> Kind
     ensures { result ≡ kind_of (term_of expression.now) }
 {
     match expression {
-        Expr::Literal(data) => literal_kind(data),
+        Expr::Whole(_) => Kind::Whole,
+        Expr::Flag(_) | Expr::Compare(_, _, _) => Kind::Flag,
+        Expr::Text(_) | Expr::Locale => Kind::Text,
         Expr::Name(_) => Kind::Hidden,
-        Expr::Chain(operator, _, _) => chain_kind(*operator),
-        Expr::Compare(_, _, _) => Kind::Flag,
+        Expr::Chain(operator, _) => chain_kind(*operator),
         Expr::Call(function, _) => call_kind(*function),
-        Expr::Locale => Kind::Text,
-    }
-}
-
-/// The kind of a literal.
-fn literal_kind(data: &Data) -> Kind
-    ensures { result ≡ literal_kind data.now }
-{
-    match data {
-        Data::Whole(_) => Kind::Whole,
-        Data::Flag(_) => Kind::Flag,
-        Data::Text(_) => Kind::Text,
     }
 }
 

@@ -45,14 +45,14 @@ fn add_let<'a>(
             }
             Ok(())
         }
-        Form::If(_, first, second) => {
+        Form::If(_, bodies) => {
             if ended {
                 return Ok(());
             }
-            if reaches(row, second) {
-                return add_lets(names, row, second);
+            if reaches(row, &bodies.second) {
+                return add_lets(names, row, &bodies.second);
             }
-            add_lets(names, row, first)
+            add_lets(names, row, &bodies.first)
         }
         Form::Repeat(_, body) => {
             if ended {

@@ -7,7 +7,6 @@ ghost use Rattle.iso_model.specs.ScriptView.{class_head_of, test_head_of};
 ghost use Rattle.iso_model.specs.SyntaxView.{block_of, stmt_of, term_of};
 
 use iso_model::chain::Chain;
-use iso_model::data::Data;
 use iso_model::heads::{ClassHead, TestHead};
 use iso_model::tree::{Expr, Form, Stmt, TwoOperands};
 use std::alloc::{AllocError, Global};
@@ -113,9 +112,9 @@ fn add_statement<'a>(
     match (&statement.form, thing) {
         (Form::Two(TwoOperands::SetProp, name, _), Thing::Property)
         | (Form::Two(TwoOperands::WriteFile, name, _), Thing::File) => add_literal(names, name),
-        (Form::If(_, first, second), _) => {
-            add_body(names, thing, first)?;
-            add_body(names, thing, second)
+        (Form::If(_, bodies), _) => {
+            add_body(names, thing, &bodies.first)?;
+            add_body(names, thing, &bodies.second)
         }
         (Form::Repeat(_, body), _) => add_body(names, thing, body),
         _ => Ok(()),
@@ -128,7 +127,7 @@ fn add_literal<'a>(names: &mut Vec<&'a str>, expression: &'a Expr) -> Result<(),
         ≡ with_literal (term_of expression.now) (map (λ n. n.now) names.old.items)) }
 {
     match expression {
-        Expr::Literal(Data::Text(text)) => {
+        Expr::Text(text) => {
             names.push(text.as_str())?;
             Ok(())
         }

@@ -59,9 +59,9 @@ fn add_inner(alloc: Global, lines: &mut Vec<Text>, row: u32, form: &Form) -> Res
         | Form::Two(_, _, _)
         | Form::Assume(_, _)
         | Form::Fail(_) => Ok(()),
-        Form::If(_, first, second) => {
-            add_statements(alloc, lines, row, first)?;
-            add_statements(alloc, lines, row, second)
+        Form::If(_, bodies) => {
+            add_statements(alloc, lines, row, &bodies.first)?;
+            add_statements(alloc, lines, row, &bodies.second)
         }
         Form::Repeat(_, body) => add_statements(alloc, lines, row, body),
     }
@@ -79,7 +79,7 @@ fn add_own(alloc: Global, lines: &mut Vec<Text>, form: &Form) -> Result<(), Allo
         }
         Form::One(OneOperand::Assert, condition)
         | Form::Assume(condition, _)
-        | Form::If(condition, _, _) => add_one(alloc, lines, rule, Kind::Flag, condition),
+        | Form::If(condition, _) => add_one(alloc, lines, rule, Kind::Flag, condition),
         Form::Repeat(count, _) => add_one(alloc, lines, rule, Kind::Whole, count),
         Form::One(OneOperand::ClearProp | OneOperand::SetLocale | OneOperand::DeleteFile, text) => {
             add_one(alloc, lines, rule, Kind::Text, text)

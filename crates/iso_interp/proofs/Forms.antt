@@ -1,7 +1,8 @@
 -- What a statement stands for, by its form, and what its step does.
-use Rattle.std.proofs.Common.{Result, OnOk, Option, Vec, ◌≡◌, ℕ, List, ◌++◌, rules, refl, sym, ap₂, ◌∙◌, subst}
+use Rattle.std.proofs.Common.{Result, OnOk, Option, Vec, Box, ◌≡◌, ℕ, List, ◌++◌, rules, refl, sym, ap₂, ◌∙◌, subst}
 use Rattle.std.proofs.lemmas.Result.{on_ok_weaker}
 use Rattle.std.specs.declared.alloc.Global.{Global}
+use Rattle.iso_model.proofs.TreeLemmas.{first_body, second_body, form_of-if, form_of-repeat}
 use Rattle.iso_model.specs.Rights.{Rights}
 use Rattle.iso_model.specs.Statements.{State, performed}
 use Rattle.iso_model.specs.Steps.{Piece, begin}
@@ -12,6 +13,7 @@ use Rattle.iso_model.specs.declared.tree.Expr.{Expr}
 use Rattle.iso_model.specs.declared.tree.Form as F
 use Rattle.iso_model.specs.declared.tree.OneOperand.{OneOperand}
 use Rattle.iso_model.specs.declared.tree.Stmt.{Stmt}
+use Rattle.iso_model.specs.declared.tree.TwoBodies.{TwoBodies}
 use Rattle.iso_model.specs.declared.tree.TwoOperands.{TwoOperands}
 use Rattle.iso_interp.specs.Runs.{SameWork, pieces_in, pieces_of}
 use Rattle.iso_interp.specs.declared.run.BlockRun.{BlockRun}
@@ -50,14 +52,9 @@ form_of-assume e reason = search (rules, F.the_lemmas)
 pub stmt_of-assume : (s : Stmt) (e : Expr) (reason : List ℕ) → s.form ≡ F.Assume e reason → stmt_of s ≡ (s.row, plain (S.assume (term_of e) reason))
 stmt_of-assume s e reason is = stmt_of-parts s ∙ rw (is, form_of-assume e reason) refl
 
-form_of-if : (e : Expr) (a b : Vec Stmt Global) → form_of (F.If e a b) ≡ S.choice (term_of e) (block_of a.items) (block_of b.items)
-form_of-if e a b = search (rules, F.the_lemmas)
-
-pub stmt_of-if : (s : Stmt) (e : Expr) (a b : Vec Stmt Global) → s.form ≡ F.If e a b → stmt_of s ≡ (s.row, S.choice (term_of e) (block_of a.items) (block_of b.items))
-stmt_of-if s e a b is = stmt_of-parts s ∙ rw (is, form_of-if e a b) refl
-
-form_of-repeat : (e : Expr) (a : Vec Stmt Global) → form_of (F.Repeat e a) ≡ S.repeat (term_of e) (block_of a.items)
-form_of-repeat e a = search (rules, F.the_lemmas)
+pub stmt_of-if : (s : Stmt) (e : Expr) (b : Box TwoBodies Global) → s.form ≡ F.If e b
+    → stmt_of s ≡ (s.row, S.choice (term_of e) (block_of (first_body b.value)) (block_of (second_body b.value)))
+stmt_of-if s e b is = stmt_of-parts s ∙ rw (is, form_of-if e b) refl
 
 pub stmt_of-repeat : (s : Stmt) (e : Expr) (a : Vec Stmt Global) → s.form ≡ F.Repeat e a → stmt_of s ≡ (s.row, S.repeat (term_of e) (block_of a.items))
 stmt_of-repeat s e a is = stmt_of-parts s ∙ rw (is, form_of-repeat e a) refl

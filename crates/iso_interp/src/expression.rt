@@ -14,7 +14,7 @@ ghost use Rattle.iso_interp.specs.Values.{AlwaysGives, Answers, ComeTo, SumTo, d
 use crate::functions::{call, locale};
 use crate::interrupt::Interrupt;
 use crate::operators::{combined_numbers, compared, joined};
-use crate::value::{Given, Value};
+use crate::value::{Given, TextValue, Value};
 use iso_model::fault::Fault;
 use iso_model::names::Names;
 use iso_model::rights::Rights;
@@ -52,7 +52,7 @@ fn at_once<'a>(names: &'a Names, expression: &'a Expr) -> Option<Value<'a>>
         (data_of v)) }
 {
     match expression {
-        Expr::Chain(_, _, _) => Some(Value::Whole(sum_at_once(names, expression)?)),
+        Expr::Chain(_, _) => Some(Value::Whole(sum_at_once(names, expression)?)),
         _ => simple(names, expression),
     }
 }
@@ -64,7 +64,7 @@ pub fn chain_at_once(names: &Names, expression: &Expr) -> Option<i64>
         (Kinds.Whole n)) }
 {
     match expression {
-        Expr::Chain(_, _, _) => sum_at_once(names, expression),
+        Expr::Chain(_, _) => sum_at_once(names, expression),
         _ => None,
     }
 }
@@ -76,7 +76,9 @@ fn simple<'a>(names: &'a Names, expression: &'a Expr) -> Option<Value<'a>>
         (data_of v)) }
 {
     match expression {
-        Expr::Literal(data) => Some(Value::lent(data)),
+        Expr::Whole(number) => Some(Value::Whole(*number)),
+        Expr::Flag(holds) => Some(Value::Flag(*holds)),
+        Expr::Text(text) => Some(Value::Text(TextValue::Lent(text.as_str()))),
         Expr::Name(name) => {
             let binding = names.get(name.as_str())?;
             Some(Value::lent(binding.value))
@@ -92,8 +94,8 @@ fn sum_at_once(names: &Names, expression: &Expr) -> Option<i64>
         (Kinds.Whole n)) }
 {
     match expression {
-        Expr::Chain(operator, first, rest) => match simple(names, first)? {
-            Value::Whole(first) => numbers(names, *operator, first, rest),
+        Expr::Chain(operator, operands) => match simple(names, &operands.first)? {
+            Value::Whole(first) => numbers(names, *operator, first, &operands.rest),
             _ => None,
         },
         _ => None,
@@ -143,12 +145,24 @@ pub fn worked_out<'a, T: Touch>(
         (access_in rights.now) (term_of expression.now)) }
 {
     match expression {
-        Expr::Literal(data) => Ok(Value::lent(data)),
+        Expr::Whole(number) => Ok(Value::Whole(*number)),
+        Expr::Flag(holds) => Ok(Value::Flag(*holds)),
+        Expr::Text(text) => Ok(Value::Text(TextValue::Lent(text.as_str()))),
         Expr::Name(name) => named(alloc, names, name),
-        Expr::Chain(operator, first, rest) => match evaluate(alloc, names, rights, touch, first) {
-            Ok(first) => chain(alloc, names, rights, touch, *operator, first, rest),
-            Err(interrupt) => Err(interrupt),
-        },
+        Expr::Chain(operator, operands) => {
+            match evaluate(alloc, names, rights, touch, &operands.first) {
+                Ok(first) => chain(
+                    alloc,
+                    names,
+                    rights,
+                    touch,
+                    *operator,
+                    first,
+                    &operands.rest,
+                ),
+                Err(interrupt) => Err(interrupt),
+            }
+        }
         Expr::Compare(comparison, first, second) => {
             match evaluate(alloc, names, rights, touch, first) {
                 Ok(first) => against(alloc, names, rights, touch, *comparison, first, second),

@@ -28,4 +28,5 @@ pub mod RightsLemmas
 pub mod SameLemmas
 pub mod SeenNames
 pub mod TouchLemmas
+pub mod TreeLemmas
 pub mod Untouched

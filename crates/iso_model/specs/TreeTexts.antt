@@ -5,5 +5,5 @@ use Rattle.iso_model.specs.declared.tree_text.Kept.TheVariants.{InPlace, Apart}
 
 -- the bytes of a text, wherever they are
 abbrev pub kept_bytes : Kept → List ℕ
-kept_bytes (InPlace s) = s.bytes
-kept_bytes (Apart t) = t
+kept_bytes (InPlace s) = s
+kept_bytes (Apart t) = t.value

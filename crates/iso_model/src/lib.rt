@@ -31,6 +31,7 @@ pub mod rights;
 pub mod same;
 pub mod script;
 pub mod shared_names;
+mod short_text;
 pub mod text;
 pub mod touch;
 pub mod touch_laws;

@@ -1,4 +1,3 @@
-use crate::data::Data;
 use crate::tree_text::TreeText;
 
 /// What joins the operands of a chain, grouped to the left.
@@ -49,16 +48,28 @@ pub enum TwoOperands {
     AppendFile,
 }
 
-/// An expression. Parentheses leave no node.
+/// An expression. Parentheses leave no node. Most expressions are literals and names, so what is
+/// larger than they stands in a box.
 #[derive(Drop)]
+#[cycle(expression)]
 pub enum Expr {
-    Literal(Data),
+    Whole(i64),
+    Flag(bool),
+    Text(TreeText),
     Name(TreeText),
-    /// The first operand, and those after an operator each.
-    Chain(Operator, Box<Expr>, Vec<Expr>),
+    Chain(Operator, Box<Operands>),
     Compare(Comparison, Box<Expr>, Box<Expr>),
     Call(Function, Box<Expr>),
     Locale,
+}
+
+/// The operands of a chain.
+#[derive(Drop)]
+#[cycle(expression)]
+pub struct Operands {
+    pub first: Expr,
+    /// Those after an operator each.
+    pub rest: Vec<Expr>,
 }
 
 /// A statement, with the row of its first token: 1 on the line of its block's opening brace.
@@ -83,8 +94,17 @@ pub enum Form {
     /// The condition, and the reason.
     Assume(Expr, TreeText),
     Fail(TreeText),
-    /// The condition, the body where it holds, and the one where it doesn't: empty without `else`.
-    If(Expr, Vec<Stmt>, Vec<Stmt>),
+    If(Expr, Box<TwoBodies>),
     /// The number of turns, and the body.
     Repeat(Expr, Vec<Stmt>),
+}
+
+/// The bodies of an `if`.
+#[derive(Drop)]
+#[cycle(statement)]
+pub struct TwoBodies {
+    /// Where the condition holds.
+    pub first: Vec<Stmt>,
+    /// Where it doesn't: empty without `else`.
+    pub second: Vec<Stmt>,
 }

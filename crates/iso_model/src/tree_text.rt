@@ -1,12 +1,12 @@
-ghost use Rattle.std.specs.Prelude.{◌≡◌, IfOk, IfSome};
+ghost use Rattle.std.specs.Prelude.{◌≡◌, IfOk};
 
+use crate::short_text::ShortText;
 use crate::text::Text;
-use arrayvec::ArrayString;
 use std::alloc::{AllocError, Global};
 use std::marker::Model;
 
-/// A text as the tree of a script keeps it, which contracts see as its bytes. One of at most 16
-/// bytes, as most names are, takes no memory beside the tree's own.
+/// A text as the tree of a script keeps it, which contracts see as its bytes. One of at most 14
+/// bytes of ASCII, as most names are, takes no memory beside the tree's own.
 #[derive(Drop)]
 pub struct TreeText {
     kept: Kept,
@@ -16,8 +16,8 @@ pub struct TreeText {
 #[derive(Drop)]
 enum Kept {
     /// In the tree itself.
-    InPlace(ArrayString<16>),
-    Apart(Text),
+    InPlace(ShortText),
+    Apart(Box<Text>),
 }
 
 impl Model for TreeText {
@@ -30,28 +30,26 @@ impl Model for TreeText {
 }
 
 impl TreeText {
-    /// This text, without taking memory.
-    pub fn of(text: Text) -> TreeText
-        ensures { result ≡ text }
+    /// This text. A long one takes memory for its place.
+    pub fn of(alloc: Global, text: Text) -> Result<TreeText, AllocError>
+        ensures { IfOk result (λ t. t ≡ text) }
     {
-        match in_place(text.as_str()) {
-            Some(short) => short,
-            None => TreeText {
-                kept: Kept::Apart(text),
-            },
-        }
+        let kept = match ShortText::of(text.as_str()) {
+            Some(short) => Kept::InPlace(short),
+            None => Kept::Apart(Box::new(alloc, text)?),
+        };
+        Ok(TreeText { kept })
     }
 
     /// A text with these bytes.
     pub fn copied(alloc: Global, text: &str) -> Result<TreeText, AllocError>
         ensures { IfOk result (λ t. t ≡ text.now) }
     {
-        match in_place(text) {
-            Some(short) => Ok(short),
-            None => Ok(TreeText {
-                kept: Kept::Apart(Text::copied(alloc, text)?),
-            }),
-        }
+        let kept = match ShortText::of(text) {
+            Some(short) => Kept::InPlace(short),
+            None => Kept::Apart(Box::new(alloc, Text::copied(alloc, text)?)?),
+        };
+        Ok(TreeText { kept })
     }
 
     /// Its bytes, as a `str`.
@@ -70,17 +68,5 @@ impl TreeText {
         ensures { IfOk result (λ t. t ≡ self.now) }
     {
         Text::copied(alloc, self.as_str())
-    }
-}
-
-/// A text with these bytes, where they are few enough to stand in the tree.
-fn in_place(text: &str) -> Option<TreeText>
-    ensures { IfSome result (λ t. t ≡ text.now) }
-{
-    match ArrayString::from(text) {
-        Ok(short) => Some(TreeText {
-            kept: Kept::InPlace(short),
-        }),
-        Err(_) => None,
     }
 }

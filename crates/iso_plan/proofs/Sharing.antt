@@ -3,7 +3,6 @@
 use denote.Param.Send.{IsSend, IsSync, sendable}
 use denote.Param.SendFields.{as_row_send, as_row_sync, declared_send, declared_sync, variants_send, variants_sync}
 use Rattle.std.proofs.Crossing.{Box-send, Box-sync, Vec-send, Vec-sync, crosses}
-use Rattle.iso_model.proofs.data.Data.TheSendSync as datum
 use Rattle.iso_model.proofs.heads.Mark.TheSendSync as marks
 use Rattle.iso_model.proofs.key_map.KeyMap.TheSendSync as key_map
 use Rattle.iso_model.proofs.heads.Variable.TheSendSync as variables
@@ -49,16 +48,16 @@ pub option_sent : (T : RattleType) → IsSend T → IsSend (option.the_row T)
 option_sent T s = variants_send (option.enum T) (tt, ((as_row_send (row_field T) s, tt), tt))
 
 pub expr_sent : IsSend (expr.the_field).row
-expr_sent = exprs.send-Expr datum.the_field_send tree_text.the_send operator.the_field_send Box-send Vec-send comparison.the_field_send function.the_field_send
+expr_sent = exprs.send-Expr (search sendable) (search sendable) tree_text.the_send operator.the_field_send Box-send comparison.the_field_send function.the_field_send Vec-send
 
 pub expr_shared : IsSync (expr.the_field).row
-expr_shared = exprs.sync-Expr datum.the_field_sync tree_text.the_sync operator.the_field_sync Box-sync Vec-sync comparison.the_field_sync function.the_field_sync
+expr_shared = exprs.sync-Expr (search sendable) (search sendable) tree_text.the_sync operator.the_field_sync Box-sync comparison.the_field_sync function.the_field_sync Vec-sync
 
 pub stmt_sent : IsSend stmt.the_row
-stmt_sent = as_row_send stmt.the_field (form.send-Stmt tree_text.the_send expr_sent one.the_field_send two.the_field_send Vec-send (search sendable))
+stmt_sent = as_row_send stmt.the_field (form.send-Stmt tree_text.the_send expr_sent one.the_field_send two.the_field_send Box-send Vec-send (search sendable))
 
 pub stmt_shared : IsSync stmt.the_row
-stmt_shared = as_row_sync stmt.the_field (form.sync-Stmt tree_text.the_sync expr_shared one.the_field_sync two.the_field_sync Vec-sync (search sendable))
+stmt_shared = as_row_sync stmt.the_field (form.sync-Stmt tree_text.the_sync expr_shared one.the_field_sync two.the_field_sync Box-sync Vec-sync (search sendable))
 
 ruleset parts = (
   as_row_send,

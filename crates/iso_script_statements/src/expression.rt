@@ -4,7 +4,7 @@ ghost use Rattle.iso_script_lexer.specs.Piece.{Piece, symbol_at};
 ghost use Rattle.iso_script_lexer.specs.Tokens.{after};
 ghost use Rattle.iso_script_lexer.specs.declared.symbol.Symbol.TheVariants.{Minus};
 ghost use Rattle.iso_script_lexer.specs.declared.token.Position.{Position};
-ghost use Rattle.iso_model.specs.Syntax.{chain, compare};
+ghost use Rattle.iso_model.specs.Syntax.{chain, compare, literal};
 ghost use Rattle.iso_model.specs.SyntaxView.{term_of};
 ghost use Rattle.iso_model.specs.declared.data.Data.{Data};
 ghost use Rattle.iso_model.specs.declared.limits.TheConstants.{OPERANDS};
@@ -21,7 +21,7 @@ use crate::wanted::{Operators, Wanted};
 use iso_model::data::Data;
 use iso_model::limits::{OPERANDS, PARENTHESES};
 use iso_model::text::Text;
-use iso_model::tree::{Comparison, Expr, Function, Operator};
+use iso_model::tree::{Comparison, Expr, Function, Operands, Operator};
 use iso_model::tree_text::TreeText;
 use iso_script_lexer::symbol::Symbol;
 use iso_script_lexer::token::Token;
@@ -69,17 +69,29 @@ fn function_of(word: Word) -> Option<Function>
     }
 }
 
+/// A literal as an expression.
+fn written(alloc: Global, value: Data) -> Result<Expr, ScriptError>
+    ensures { MatchResult result (λ e. term_of e ≡ literal value) IsMemory }
+{
+    match value {
+        Data::Whole(number) => Ok(Expr::Whole(number)),
+        Data::Flag(holds) => Ok(Expr::Flag(holds)),
+        Data::Text(text) => Ok(Expr::Text(TreeText::of(alloc, text)?)),
+    }
+}
+
 /// An operand and those that follow it in its chain.
 fn chain(
     alloc: Global,
     operator: Operator,
     first: Expr,
-    operands: Vec<Expr>,
+    rest: Vec<Expr>,
 ) -> Result<Expr, ScriptError>
     ensures { MatchResult result (λ e. term_of e
-        ≡ chain operator (term_of first) (terms_in operands)) IsMemory }
+        ≡ chain operator (term_of first) (terms_in rest)) IsMemory }
 {
-    Ok(Expr::Chain(operator, Box::new(alloc, first)?, operands))
+    let operands = Operands { first, rest };
+    Ok(Expr::Chain(operator, Box::new(alloc, operands)?))
 }
 
 /// Two operands that are compared.
@@ -194,9 +206,10 @@ impl Parser<'_> {
             && let Ok(whole) = i64::try_from(number)
         {
             self.lexer.advance();
-            return Ok(Expr::Literal(Data::Whole(whole)));
+            return Ok(Expr::Whole(whole));
         }
-        Ok(Expr::Literal(self.literal(Wanted::Operand)?))
+        let literal = self.literal(Wanted::Operand)?;
+        written(self.alloc, literal)
     }
 
     /// What follows the word `locale`: two parentheses, where `parens` may be opened.

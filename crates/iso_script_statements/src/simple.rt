@@ -114,7 +114,7 @@ impl Parser<'_> {
         let condition = self.expression_before(Symbol::Comma)?;
         let reason = self.display()?;
         self.expect(Symbol::Semicolon)?;
-        Ok(Form::Assume(condition, TreeText::of(reason)))
+        Ok(Form::Assume(condition, TreeText::of(self.alloc, reason)?))
     }
 
     /// What follows `fail`.
@@ -124,7 +124,7 @@ impl Parser<'_> {
         let message = self.text()?;
         self.expect(Symbol::Semicolon)?;
         let decoded = Text::new(message.decode(self.alloc)?);
-        Ok(Form::Fail(TreeText::of(decoded)))
+        Ok(Form::Fail(TreeText::of(self.alloc, decoded)?))
     }
 
     /// A name, and the expression that it gets. Where no name is next, this is wanted.

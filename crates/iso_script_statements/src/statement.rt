@@ -16,7 +16,7 @@ use crate::parser::Parser;
 use crate::reason::Limit;
 use crate::wanted::Wanted;
 use iso_model::limits::{BODY_DEPTH, PARENTHESES};
-use iso_model::tree::{Form, Stmt};
+use iso_model::tree::{Form, Stmt, TwoBodies};
 use iso_script_lexer::symbol::Symbol;
 use iso_script_lexer::word::Word;
 
@@ -118,7 +118,8 @@ impl Parser<'_> {
         let wanted = self.wanted_before(Symbol::OpenBrace);
         let first = self.body(bodies, above, wanted)?;
         let second = self.otherwise(bodies, above)?;
-        Ok(Form::If(condition, first, second))
+        let bodies = Box::new(self.alloc, TwoBodies { first, second })?;
+        Ok(Form::If(condition, bodies))
     }
 
     /// The body of an `else`, or none.

@@ -79,8 +79,9 @@ impl<'a> BlockRun<'a> {
             Form::Two(what, first, second) => self.perform_two(touch, row, *what, first, second),
             Form::Assume(condition, reason) => self.assume(touch, row, condition, reason),
             Form::Fail(message) => self.fail_with(row, message),
-            Form::If(condition, first, second) => {
-                self.choose(touch, row, condition, Block::of(first), Block::of(second))
+            Form::If(condition, bodies) => {
+                let (first, second) = (Block::of(&bodies.first), Block::of(&bodies.second));
+                self.choose(touch, row, condition, first, second)
             }
             Form::Repeat(count, body) => self.repeat(touch, row, count, Block::of(body)),
         }

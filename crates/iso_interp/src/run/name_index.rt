@@ -38,7 +38,7 @@ fn left_after_form(form: &Form, looks: u32) -> u32 {
         Form::Let(_, value) | Form::Assign(_, value) => left_after(value, looks.saturating_sub(1)),
         Form::One(_, value)
         | Form::Assume(value, _)
-        | Form::If(value, _, _)
+        | Form::If(value, _)
         | Form::Repeat(value, _) => left_after(value, looks),
         Form::Two(_, first, second) => left_after(second, left_after(first, looks)),
         Form::Fail(_) => looks,
@@ -52,8 +52,10 @@ fn left_after(expression: &Expr, looks: u32) -> u32 {
         return 0;
     }
     match expression {
-        Expr::Literal(_) | Expr::Name(_) | Expr::Locale => looks - 1,
-        Expr::Chain(_, first, rest) => left_after_all(rest, left_after(first, looks)),
+        Expr::Whole(_) | Expr::Flag(_) | Expr::Text(_) | Expr::Name(_) | Expr::Locale => looks - 1,
+        Expr::Chain(_, operands) => {
+            left_after_all(&operands.rest, left_after(&operands.first, looks))
+        }
         Expr::Compare(_, first, second) => left_after(second, left_after(first, looks)),
         Expr::Call(_, operand) => left_after(operand, looks),
     }

@@ -8,7 +8,6 @@ ghost use Rattle.iso_model.specs.Touch.{HasKeys};
 ghost use Rattle.iso_interp.specs.Runs.{Performs, SameWork, run_rights, state_of};
 
 use crate::run::BlockRun;
-use iso_model::data::Data;
 use iso_model::fault::Fault;
 use iso_model::touch::Touch;
 use iso_model::tree::Expr;
@@ -27,7 +26,7 @@ impl<'a> BlockRun<'a> {
             (print (term_of expression.now)) result }
         ensures work { SameWork self.old self.new }
     {
-        if let Expr::Literal(Data::Text(line)) = expression {
+        if let Expr::Text(line) = expression {
             // The block lends it, so that it needs no copy.
             return self.write(row, line.as_str());
         }

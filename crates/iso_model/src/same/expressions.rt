@@ -43,10 +43,13 @@ pub(crate) fn same_expr(a: &Expr, b: &Expr) -> bool
     ensures { IsTrue result ↔ (term_of a.now ≡ term_of b.now) }
 {
     match (a, b) {
-        (Expr::Literal(x), Expr::Literal(y)) => same_data(x, y),
-        (Expr::Name(x), Expr::Name(y)) => x.as_str() == y.as_str(),
-        (Expr::Chain(p, x, xs), Expr::Chain(q, y, ys)) => {
-            same_operator(*p, *q) && same_expr(x, y) && same_exprs(xs, ys)
+        (Expr::Whole(x), Expr::Whole(y)) => x == y,
+        (Expr::Flag(x), Expr::Flag(y)) => x == y,
+        (Expr::Text(x), Expr::Text(y)) | (Expr::Name(x), Expr::Name(y)) => {
+            x.as_str() == y.as_str()
+        }
+        (Expr::Chain(p, x), Expr::Chain(q, y)) => {
+            same_operator(*p, *q) && same_expr(&x.first, &y.first) && same_exprs(&x.rest, &y.rest)
         }
         (Expr::Compare(p, x, u), Expr::Compare(q, y, v)) => {
             same_comparison(*p, *q) && same_expr(x, y) && same_expr(u, v)

@@ -32,8 +32,10 @@ fn same_form(a: &Form, b: &Form) -> bool
             same_two(*p, *q) && same_expr(c, d) && same_expr(e, f)
         }
         (Form::Fail(x), Form::Fail(y)) => x.as_str() == y.as_str(),
-        (Form::If(e, xs, us), Form::If(f, ys, vs)) => {
-            same_expr(e, f) && same_stmts(xs, ys) && same_stmts(us, vs)
+        (Form::If(e, xs), Form::If(f, ys)) => {
+            same_expr(e, f)
+                && same_stmts(&xs.first, &ys.first)
+                && same_stmts(&xs.second, &ys.second)
         }
         (Form::Repeat(e, xs), Form::Repeat(f, ys)) => same_expr(e, f) && same_stmts(xs, ys),
         _ => false,

@@ -27,7 +27,13 @@ fn first_of(script: &Script) -> Option<&Stmt> {
 fn rows_of_if(script: &Script) -> Option<(u32, u32, u32)> {
     let statement = first_of(script)?;
     match &statement.form {
-        Form::If(_, yes, no) => Some((statement.row, yes.get(0)?.row, no.get(0)?.row)),
+        Form::If(_, bodies) => {
+            Some((
+                statement.row,
+                bodies.first.get(0)?.row,
+                bodies.second.get(0)?.row,
+            ))
+        }
         _ => None,
     }
 }
@@ -58,7 +64,9 @@ class C {
 /// Whether a form prints a first operand less two others.
 fn is_subtraction_of_three(form: &Form) -> bool {
     match form {
-        Form::One(OneOperand::Print, Expr::Chain(Operator::Subtract, _, rest)) => rest.len() == 2,
+        Form::One(OneOperand::Print, Expr::Chain(Operator::Subtract, operands)) => {
+            operands.rest.len() == 2
+        }
         _ => false,
     }
 }

@@ -1,6 +1,5 @@
 //! Whole scripts: the tree of one, and its fronts up to the team.
 use crate::script::made::check_script;
-use iso_model::data::Data;
 use iso_model::script::{Class, Member, Script, Test};
 use iso_model::tree::{Expr, Form, OneOperand, TwoOperands};
 use iso_script::fault::ScriptError;
@@ -34,30 +33,27 @@ fn statement(test: &Test, index: usize, row: u32) -> Option<&Form> {
     (statement.row == row).then_some(&statement.form)
 }
 
-/// The literal that a statement at this row prints.
-fn printed(test: &Test, index: usize, row: u32) -> Option<&Data> {
+/// The expression that a statement at this row prints.
+fn printed(test: &Test, index: usize, row: u32) -> Option<&Expr> {
     match statement(test, index, row)? {
-        Form::One(OneOperand::Print, Expr::Literal(data)) => Some(data),
+        Form::One(OneOperand::Print, printed) => Some(printed),
         _ => None,
     }
 }
 
-fn is_whole(data: Option<&Data>, expected: i64) -> bool {
-    matches!(data, Some(Data::Whole(whole)) if *whole == expected)
+fn is_whole(expression: Option<&Expr>, expected: i64) -> bool {
+    matches!(expression, Some(Expr::Whole(whole)) if *whole == expected)
 }
 
-fn is_text(data: Option<&Data>, expected: &str) -> bool {
-    matches!(data, Some(Data::Text(text)) if text.as_str() == expected)
+fn is_text(expression: Option<&Expr>, expected: &str) -> bool {
+    matches!(expression, Some(Expr::Text(text)) if text.as_str() == expected)
 }
 
 /// Whether a form compares `true` with the least number.
 fn compares(form: &Form) -> bool {
     match form {
-        Form::Two(
-            TwoOperands::AssertEqual,
-            Expr::Literal(Data::Flag(true)),
-            Expr::Literal(Data::Whole(least)),
-        ) => *least == i64::MIN,
+        Form::Two(TwoOperands::AssertEqual, Expr::Flag(true), Expr::Whole(least)) => *least
+            == i64::MIN,
         _ => false,
     }
 }
@@ -86,7 +82,7 @@ fn is_adds(test: &Test) -> bool {
         && is_whole(printed(test, 0, 2), 7)
         && is_text(printed(test, 1, 2), "a\"b\\")
         && matches!(statement(test, 2, 4), Some(form) if compares(form))
-        && matches!(printed(test, 3, 6), Some(Data::Flag(false)))
+        && matches!(printed(test, 3, 6), Some(Expr::Flag(false)))
 }
 
 /// Whether a class is `Cart`.

@@ -34,7 +34,7 @@ returns-in-Assume-clause-begun g c = begun-plain c.assume.result (run_rights c.a
 pub returns-in-If-clause-begun : goal.returns-in-If-clause-begun
 returns-in-If-clause-begun g c =
     let s = c.args.statement.now in
-    let is = stmt_of-if s _ _ _ c.in-If.is ∙ ap₂ (λ (a b : Acts). (s.row, S.choice (term_of c.in-If.condition) a b)) (ap block_of (sym c.deref.ensures.value) ∙ sym c.of.ensures)
+    let is = stmt_of-if s _ _ c.in-If.is ∙ ap₂ (λ (a b : Acts). (s.row, S.choice (term_of c.in-If.condition) a b)) (ap block_of (sym c.deref.ensures.value) ∙ sym c.of.ensures)
     (ap block_of (sym c.deref-in-If.ensures.value) ∙ sym c.of-in-If.ensures) in
     begun-as c.choose.result (run_rights c.args.self.now) s (S.choice (term_of c.in-If.condition) c.of.result c.of-in-If.result) (state_of c.args.self.now (g.T.Touch.content c.args.touch.now))
     (state_of c.choose.new.self (g.T.Touch.content c.args.touch.now)) (pieces_of c.args.self.now) (pieces_of c.choose.new.self) is c.choose.ensures.begun

@@ -1,9 +1,7 @@
-use Rattle.std.proofs.Common.{◌≡◌, ap, sym, ◌∙◌, rules}
-use Rattle.iso_model.specs.Syntax.{Term}
-use Rattle.iso_model.specs.SyntaxView.{term_of, term_step}
-use Rattle.iso_model.specs.declared.tree.Expr.TheVariants.{rolls-Chain}
-use Rattle.iso_model.specs.declared.tree.Expr.TheFolds.{fold-roll-Expr}
+use Rattle.std.proofs.Common.{◌≡◌, ap, ◌∙◌, rules}
+use Rattle.iso_model.specs.SyntaxView.{term_of}
 use Rattle.iso_model.proofs.SameLemmas.{chains_same, same_here}
+use Rattle.iso_model.proofs.TreeLemmas.{term_of-chain}
 use Rattle.iso_model.proofs.same.expressions.+expression.Goals.{same_expr-then-same_operator, same_expr-else-same_operator}
 use Rattle.iso_model.proofs.same.expressions.+expression.Goals as goal
 
@@ -13,12 +11,9 @@ same_expr-returns-then-same_expr t c =
     elim c.if-same_operator.branch [
       | same_expr-then-same_operator w ↦
           let o : v.p ≡ v.q = c.same_operator.ensures.0 cc in
-          let first : term_of v.x.value ≡ term_of v.y.value = rw (w.deref.ensures, w.deref-then-same_operator.ensures) at (w.same_expr.ensures.0 cc) in
-          let rest = rw (c.deref-then-same_expr.ensures.value, c.deref-then-same_expr-2.ensures.value) at c.same_exprs.ensures in
-          chains_same
-          (ap term_of (v.is-0 ∙ sym (rolls-Chain v.p v.x v.xs)) ∙ fold-roll-Expr Term term_step _)
-          (ap term_of (v.is-1 ∙ sym (rolls-Chain v.q v.y v.ys)) ∙ fold-roll-Expr Term term_step _)
-          o first rest
+          let first : term_of v.x.value.first ≡ term_of v.y.value.first = rw (w.deref.ensures, w.deref-then-same_operator.ensures) at (w.same_expr.ensures.0 cc) in
+          let rest = rw (c.deref-then-same_expr-2.ensures.value, c.deref-then-same_expr.ensures, c.deref-then-same_expr-4.ensures.value, c.deref-then-same_expr-3.ensures) at c.same_exprs.ensures in
+          chains_same (ap term_of v.is-0 ∙ term_of-chain v.p v.x) (ap term_of v.is-1 ∙ term_of-chain v.q v.y) o first rest
       | same_expr-else-same_operator w ↦ absurd cc
     ]
 

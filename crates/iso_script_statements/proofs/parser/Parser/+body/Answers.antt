@@ -5,6 +5,7 @@ use Rattle.iso_script_lexer.specs.Piece.{word_at}
 use Rattle.iso_script_lexer.specs.Tokens.{after_word}
 use Rattle.iso_script_lexer.specs.declared.word.Word.TheVariants as W
 use Rattle.iso_script_lexer.proofs.Afters.{after_word-Some}
+use Rattle.iso_model.proofs.TreeLemmas.{form_of-repeat}
 use Rattle.iso_model.specs.SyntaxView.{form_of}
 use Rattle.iso_script_statements.specs.Statements.{IsSimple, IsStatement, an_if, a_repeat, IsElse, no_else, IsStatements, IsBody, body_of}
 use Rattle.iso_script_statements.proofs.Answers.{parses_from}
@@ -12,7 +13,7 @@ use Rattle.iso_script_statements.proofs.Repetitions.{none_read, read_more}
 use Rattle.iso_script_statements.proofs.Shorter.{statement_shorter}
 use Rattle.iso_script_statements.proofs.Statements.{is_simple, simple_only, is_assignment, assignment_only, if_body, if_else, repeat_body, is_else, else_only, statement_some, also, goes_on, goes_only, next_statement, all_read, is_body, body_inner, not_opened}
 use Rattle.iso_script_statements.proofs.WantedLemmas.{expression_ends}
-use Rattle.iso_script_statements.proofs.Views.{form_of-assign, form_of-if, form_of-repeat, stmt_of-parts}
+use Rattle.iso_script_statements.proofs.Views.{form_of-assign, form_of-choice, stmt_of-parts}
 use Rattle.iso_script_statements.proofs.parser.Parser.+body.Goals as goal
 
 pub statements-statements-init : goal.statements-statements-init
@@ -103,7 +104,7 @@ choice-returns-in_err-second t c =
     λ r. rw (p.1, p.2) (λ a rest h. let k = if_else _ _ r _ _ a _ _ _ rest c.in_ok-condition.ensures c.in_ok-first.ensures h in c.in_err-second.ensures k.0 rest k.1)
 
 pub choice-returns : goal.choice-returns
-choice-returns t c = λ r. rw form_of-if (an_if c.in_ok-condition.ensures c.in_ok-first.ensures c.in_ok-second.ensures)
+choice-returns t c = λ r. rw (form_of-choice c.in_ok-condition.condition _ _ c.in_ok-bodies.bodies c.in_ok-bodies.ensures.ok) (an_if c.in_ok-condition.ensures c.in_ok-first.ensures c.in_ok-second.ensures)
 
 pub repetition-body-requires : goal.repetition-body-requires
 repetition-body-requires t c = (omega arith, c.wanted_before-wanted.ensures _ (expression_ends c.in_ok-count.ensures))

@@ -12,7 +12,7 @@ use Rattle.iso_script_statements.proofs.Answers.{parses_built, parses_from}
 use Rattle.iso_script_statements.proofs.Expressions.{none_next, is_in_parentheses, parentheses_only, is_call, is_locale, locale_only, is_name, is_whole, literal_only, enclosed_opens, is_enclosed, not_enclosed, operand_first, all_chained, chain_goes_on, chain_goes_only, not_mixed, not_longer, operand_follows, is_chain, chain_only, is_comparison, comparison_only, unfollowed, room_left, still_few, tail_shorter}
 use Rattle.iso_script_statements.proofs.Repetitions.{none_read, read_more}
 use Rattle.iso_script_statements.proofs.Shorter.{operand_shorter}
-use Rattle.iso_script_statements.proofs.Views.{term_of-literal, term_of-name, term_of-call}
+use Rattle.iso_script_statements.proofs.Views.{term_of-whole, term_of-name, term_of-call}
 use Rattle.iso_script_statements.proofs.WantedLemmas.{expression_ends, unmet_operator}
 use Rattle.iso_script_statements.proofs.parser.Parser.+expression.Goals as goal
 
@@ -150,7 +150,8 @@ pub operand-returns : goal.operand-returns
 operand-returns t c =
     let e = c.in-Ok.ensures in
     let kept = c.if-takes_word.ensures.kept refl in
-    rw term_of-literal (is_whole _ _ _ _ _ _ (grind (arith, ints, e)) (rw (c.in-Number.is, kept) at c.peek.ensures.next) (c.advance-2.ensures ∙ ap tail kept) (omega (arith, ints, e)))
+    rw term_of-whole (is_whole _ _ _ _ _ _ (grind (arith, ints, e)) (rw (c.in-Number.is, kept) at c.peek.ensures.next) (c.advance-2.ensures ∙ ap tail kept) (omega (arith, ints, e)))
 
 pub operand-returns-2 : goal.operand-returns-2
-operand-returns-2 t c = rw term_of-literal (a_literal (rw (c.if-takes_word.ensures.kept refl) at c.in_ok-literal.ensures))
+operand-returns-2 t c =
+    parses_built term_of (IsOperand c.args.parens) _ _ _ _ (a_literal (rw (c.if-takes_word.ensures.kept refl) at c.in_ok-literal.ensures)) c.written.ensures

@@ -14,4 +14,4 @@ returns-in_err-expect c =
     rw p.1 (λ a rest h. absurd (reason_closes _ _ a _ _ _ rest c.in_ok-condition.ensures c.in_ok-reason.ensures c.in_err-expect.ensures.0 h))
 
 pub returns : goal.returns
-returns c = rw (form_of-assume, c.of.ensures) (is_assumption _ _ _ _ _ _ c.in_ok-condition.ensures c.in_ok-reason.ensures c.in_ok-expect.ensures)
+returns c = rw (form_of-assume, c.in_ok-of.ensures) (is_assumption _ _ _ _ _ _ c.in_ok-condition.ensures c.in_ok-reason.ensures c.in_ok-expect.ensures)

@@ -14,4 +14,4 @@ returns-in_err-expect c =
     rw p.1 (λ a rest h. absurd (fail_closes _ a _ _ rest c.in_ok-message.ensures c.in_err-expect.ensures.0 h))
 
 pub returns : goal.returns
-returns c = rw (form_of-fail, c.of.ensures, c.new-decoded.ensures, c.in_ok-decode.ensures.value) (is_fail _ _ _ _ c.in_ok-message.ensures c.in_ok-expect.ensures)
+returns c = rw (form_of-fail, c.in_ok-of.ensures, c.new-decoded.ensures, c.in_ok-decode.ensures.value) (is_fail _ _ _ _ c.in_ok-message.ensures c.in_ok-expect.ensures)
