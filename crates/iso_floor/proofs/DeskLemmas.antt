@@ -18,7 +18,7 @@ use Rattle.iso_isolation.specs.States as States
 use Rattle.iso_lifecycle.specs.declared.kind.BodyKind.{BodyKind}
 use Rattle.iso_lifecycle.specs.declared.kind.BodyKind.TheVariants.{AfterAll, BeforeAll, Test}
 use Rattle.iso_plan.specs.HeldNodes.{is_held}
-use Rattle.iso_plan.specs.Locks.{locks}
+use Rattle.iso_plan.specs.KeyGroups.{lead_locks}
 use Rattle.iso_plan.specs.Paths.{IsTree}
 use Rattle.iso_plan.specs.Planned.{Planned}
 use Rattle.iso_plan.specs.RowView.{tree_of}
@@ -183,12 +183,12 @@ module _ (plan : Planned) (start : Start) (workers : ℕ) where
     owned are same = subst (AreOwners c) (sym same) are
 
     pub desk-entered : (w n : ℕ) (q : Planned) (held : List Bool) → HoldAlike n b c → q ≡ c.plan → ((m : ℕ) → m < length c.plan.rows → is_held held m ≡ States.is_held ((state_in c).nodes.status m))
-        → (n < length q.rows → AreRenewed (tree_of q) held (locks (tree_of q) n) s.keys u.keys) → (length q.rows ≤ n → u.keys ≡ s.keys) → KeepsSizes s u → KeepsLines s u
+        → (n < length q.rows → AreRenewed (tree_of q) held (lead_locks (tree_of q) n) s.keys u.keys) → (length q.rows ≤ n → u.keys ≡ s.keys) → KeepsSizes s u → KeepsLines s u
         → HasEntered w n b c → refusal_in b (Enter w n) ≡ None → u.table ≡ put n (With w) s.table → u.owners ≡ s.owners → IsDesk plan start workers b s → IsDesk plan start workers c u
     desk-entered w n q held alike same each renewed past sizes lines has allowed table owners d =
         after
         (marks-after b c plans tree-of n held s.keys u.keys alike each
-        (subst (λ (x : Planned). n < length x.rows → AreRenewed (tree_of x) held (locks (tree_of x) n) s.keys u.keys) same renewed)
+        (subst (λ (x : Planned). n < length x.rows → AreRenewed (tree_of x) held (lead_locks (tree_of x) n) s.keys u.keys) same renewed)
         (subst (λ (x : Planned). length x.rows ≤ n → u.keys ≡ s.keys) same past) d.marks)
         sizes lines (placed n (With w) has.others table (at-with b c w n has) d) (stand n (With w) refl table owners d)
         (owned (owners-entered b c w n s.owners plans has allowed d.owners) owners)
@@ -204,14 +204,14 @@ module _ (plan : Planned) (start : Start) (workers : ℕ) where
 
     pub desk-left : (kind : BodyKind) (n : ℕ) (q : Planned) (held : List Bool) → HoldAfter kind n b c → q ≡ c.plan
         → ((m : ℕ) → m < length c.plan.rows → is_held held m ≡ States.is_held ((state_in c).nodes.status m))
-        → (kind ≡ BeforeAll → u ≡ s) → (kind ≢ BeforeAll → n < length q.rows → AreRenewed (tree_of q) held (locks (tree_of q) n) s.keys u.keys) → (length q.rows ≤ n → u.keys ≡ s.keys)
+        → (kind ≡ BeforeAll → u ≡ s) → (kind ≢ BeforeAll → n < length q.rows → AreRenewed (tree_of q) held (lead_locks (tree_of q) n) s.keys u.keys) → (length q.rows ≤ n → u.keys ≡ s.keys)
         → KeepsSizes s u → KeepsLines s u → HasGoneOn kind n b c → (kind ≢ BeforeAll → IsMoved n Over s.table.places u.table.places)
         → u.owners ≡ s.owners → (StandRightly q s.owners s.table.places → StandRightly q u.owners u.table.places) → ClosesNone s.table.places u.table.places → IsDesk plan start workers b s
         → IsDesk plan start workers c u
     desk-left kind n q held h same each stays renewed past sizes lines has moves owners stands closing d =
         after
         (marks-left b c plans tree-of kind n held s.keys u.keys h each (λ k. ap (λ (x : SchedulerView). x.keys) (stays k))
-        (subst (λ (x : Planned). kind ≢ BeforeAll → n < length x.rows → AreRenewed (tree_of x) held (locks (tree_of x) n) s.keys u.keys) same renewed)
+        (subst (λ (x : Planned). kind ≢ BeforeAll → n < length x.rows → AreRenewed (tree_of x) held (lead_locks (tree_of x) n) s.keys u.keys) same renewed)
         (subst (λ (x : Planned). length x.rows ≤ n → u.keys ≡ s.keys) same past) d.marks)
         sizes lines (left kind refl)
         (subst (λ (x : Planned). StandRightly x s.owners s.table.places → StandRightly x u.owners u.table.places) (same ∙ plans ∙ d.book.plan_is) stands d.stands)

@@ -6,9 +6,11 @@ use Rattle.iso_floor.specs.KeyMarks.{is_excluded}
 use Rattle.iso_model.specs.declared.access.Access.{Access}
 use Rattle.iso_model.specs.declared.access.Access.TheVariants.{Read, Write}
 use Rattle.iso_plan.proofs.HeldLemmas.{excluded-is}
+use Rattle.iso_plan.proofs.LeadLemmas.{leads-excluded, leads-known}
 use Rattle.iso_plan.proofs.PathLemmas.{eq_same}
 use Rattle.iso_plan.specs.Conflicts.{is_in_the_way, lowest, lowest_in_the_way}
-use Rattle.iso_plan.specs.HeldNodes.{AreCounted, any_excluded, count, counted, excluded, is_access, is_held, takers, takes_in, use_of}
+use Rattle.iso_plan.specs.HeldNodes.{AreCounted, AreLeadsCounted, any_excluded, count, counted, excluded, is_access, is_held, takers, takes_in, use_of}
+use Rattle.iso_plan.specs.KeyGroups.{lead_locks}
 use Rattle.iso_plan.specs.KeyTable.{keys}
 use Rattle.iso_plan.specs.Locks.{conflict, is_write, locks}
 use Rattle.iso_plan.specs.Tree.{Row}
@@ -106,6 +108,13 @@ module _ (tree : List Row) (held : List Bool) where
       ∙ sym (excluded-is tree nodes uses n are-counted (subst (λ (x : ℕ). AllByRecursion (λ (l : Lock). l.key < x) (locks tree n)) (sym (long use-at (length (keys tree)))) known))
       ∙ any-same (locks tree n) known
 
-  pub none-excluded : (n : ℕ) → AllByRecursion (λ (l : Lock). l.key < length (keys tree)) (locks tree n) → list_any (is_excluded tree held) (locks tree n) ≡ false
-      → is_some (lowest_in_the_way tree (is_held held) n) ≡ false
-  none-excluded n known e = some-excluded n known ∙ e
+  leads-counted : AreLeadsCounted tree nodes uses
+  leads-counted = record { nodes = are-counted.nodes; table = are-counted.table; counts = λ a k h l. are-counted.counts a k h }
+
+  -- nor where no lead lock is
+  pub none-excluded : (n : ℕ) → n < length tree → list_any (is_excluded tree held) (lead_locks tree n) ≡ false → is_some (lowest_in_the_way tree (is_held held) n) ≡ false
+  none-excluded n h e =
+      ap is_some (same-lowest (is_in_the_way tree (is_held held) n) (is_in_the_way tree (is_held nodes) n) (length tree) (λ m h. ap (λ (b : Bool). b && conflict tree m n) (sym (held-at m h))))
+      ∙ sym (leads-excluded tree nodes uses n h leads-counted)
+      ∙ any-same (lead_locks tree n) (leads-known tree n)
+      ∙ e

@@ -7,6 +7,7 @@ pub mod FreeSeats
 pub mod FreeTrays
 pub mod HintLemmas
 pub mod KeyLemmas
+pub mod LeadLemmas
 pub mod LooseLemmas
 pub mod PlaceLemmas
 pub mod PostingLemmas

@@ -21,6 +21,7 @@ use Rattle.iso_plan.proofs.ColumnLemmas.{column-read}
 use Rattle.iso_plan.proofs.HeldLemmas.{count-none}
 use Rattle.iso_plan.proofs.PathLemmas.{eq_not, eq_same}
 use Rattle.iso_plan.specs.HeldNodes.{is_held, takes_in}
+use Rattle.iso_plan.specs.KeyGroups.{is_lead, lead_locks}
 use Rattle.iso_plan.specs.KeyTable.{keys}
 use Rattle.iso_plan.specs.Locks.{lock_of, locks, locks_from, taken}
 use Rattle.iso_plan.specs.Paths.{IsTree}
@@ -31,6 +32,7 @@ use Rattle.iso_plan.specs.declared.lock.Lock.{Lock}
 use Rattle.iso_settings.specs.Worlds.{Start}
 use Rattle.iso_suites.proofs.SuiteLaws.{root-takes}
 use Rattle.iso_floor.proofs.HintLemmas.{same-count}
+use Rattle.iso_floor.proofs.LeadLemmas.{any-on-lead}
 
 -- whether a node of a book is held
 pub held-at : (b : BookView) (m : ℕ) → m < length b.plan.rows → is_held (held_nodes b) m ≡ States.is_held ((state_in b).nodes.status m)
@@ -100,6 +102,9 @@ module _ (b c : BookView) (plans : c.plan ≡ b.plan) (t : IsTree (tree_of c.pla
   old-tree : (a : Access) (k : ℕ) → is_taken (tree_of b.plan) (held_nodes b) a k ≡ is_taken tree (held_nodes b) a k
   old-tree a k = ap (λ (p : Planned). is_taken (tree_of p) (held_nodes b) a k) (sym plans)
 
+  old-lead : (k : ℕ) → is_lead tree k ≡ true → is_lead (tree_of b.plan) k ≡ true
+  old-lead k h = ap (λ (p : Planned). is_lead (tree_of p) k) (sym plans) ∙ h
+
   same-held : (m : ℕ) → m < length tree → States.is_held ((state_in c).nodes.status m) ≡ States.is_held ((state_in b).nodes.status m) → is_held (held_nodes b) m ≡ is_held (held_nodes c) m
   same-held m h e = held-at b m (within-old m h) ∙ sym e ∙ sym (held-at c m h)
 
@@ -113,8 +118,8 @@ module _ (b c : BookView) (plans : c.plan ≡ b.plan) (t : IsTree (tree_of c.pla
       let same : (a : Access) (k : ℕ) → is_taken (tree_of b.plan) (held_nodes b) a k ≡ is_taken tree (held_nodes c) a k =
       λ a k. old-tree a k ∙ taken-same tree (held_nodes b) (held_nodes c) a k (λ m h. at-same a k m s h) in
       record {
-        written = λ k h. o.written k h ∙ same Write k;
-        held = λ k h. o.held k h ∙ ap₂ (λ (x y : Bool). x || y) (same Write k) (same Read k);
+        written = λ k h l. o.written k h (old-lead k l) ∙ same Write k;
+        held = λ k h l. o.held k h (old-lead k l) ∙ ap₂ (λ (x y : Bool). x || y) (same Write k) (same Read k);
       }
 
   at-other : (n : ℕ) (a : Access) (k m : ℕ) → HoldAlike n b c → list_any (λ l. k == l.key) (locks tree n) ≡ false → m < length tree
@@ -131,18 +136,19 @@ module _ (b c : BookView) (plans : c.plan ≡ b.plan) (t : IsTree (tree_of c.pla
   -- the keys of the node are marked anew
   pub marks-renewed : (n : ℕ) (held : List Bool) (old new : KeysView) → HoldAlike n b c
       → ((m : ℕ) → m < length c.plan.rows → is_held held m ≡ States.is_held ((state_in c).nodes.status m))
-      → AreRenewed tree held (locks tree n) old new → AreMarksOf b old → AreMarksOf c new
+      → AreRenewed tree held (lead_locks tree n) old new → AreMarksOf b old → AreMarksOf c new
   marks-renewed n held old new s each r o =
       let now : (a : Access) (k : ℕ) → is_taken tree held a k ≡ is_taken tree (held_nodes c) a k =
       λ a k. taken-same tree held (held_nodes c) a k (λ m h. ap (λ (x : Bool). x && takes_in a k (locks tree m)) (each m h ∙ sym (held-at c m h))) in
-      let before : (a : Access) (k : ℕ) → list_any (λ l. k == l.key) (locks tree n) ≡ false → is_taken (tree_of b.plan) (held_nodes b) a k ≡ is_taken tree (held_nodes c) a k =
-      λ a k e. old-tree a k ∙ taken-same tree (held_nodes b) (held_nodes c) a k (λ m h. at-other n a k m s e h) in
+      let before : (a : Access) (k : ℕ) → is_lead tree k ≡ true → list_any (λ l. k == l.key) (lead_locks tree n) ≡ false
+      → is_taken (tree_of b.plan) (held_nodes b) a k ≡ is_taken tree (held_nodes c) a k =
+      λ a k l e. old-tree a k ∙ taken-same tree (held_nodes b) (held_nodes c) a k (λ m h. at-other n a k m s (sym (any-on-lead tree n k l) ∙ e) h) in
       record {
-        written = λ k h. r.written k h ∙ pick (list_any (λ l. k == l.key) (locks tree n)) _ _ _ (λ e. now Write k) (λ e. o.written k h ∙ before Write k e);
-        held = λ k h.
+        written = λ k h l. r.written k h ∙ pick (list_any (λ l. k == l.key) (lead_locks tree n)) _ _ _ (λ e. now Write k) (λ e. o.written k h (old-lead k l) ∙ before Write k l e);
+        held = λ k h l.
             r.held k h
-            ∙ pick (list_any (λ l. k == l.key) (locks tree n)) _ _ _ (λ e. ap₂ (λ (x y : Bool). x || y) (now Write k) (now Read k))
-            (λ e. o.held k h ∙ ap₂ (λ (x y : Bool). x || y) (before Write k e) (before Read k e));
+            ∙ pick (list_any (λ l. k == l.key) (lead_locks tree n)) _ _ _ (λ e. ap₂ (λ (x y : Bool). x || y) (now Write k) (now Read k))
+            (λ e. o.held k h (old-lead k l) ∙ ap₂ (λ (x y : Bool). x || y) (before Write k l e) (before Read k l e));
       }
 
   all-apart : (n : ℕ) → length tree ≤ n → HoldAlike n b c → HoldSame b c
@@ -155,7 +161,7 @@ module _ (b c : BookView) (plans : c.plan ≡ b.plan) (t : IsTree (tree_of c.pla
   -- the keys of what is a node are marked anew
   pub marks-after : (n : ℕ) (held : List Bool) (old new : KeysView) → HoldAlike n b c
       → ((m : ℕ) → m < length c.plan.rows → is_held held m ≡ States.is_held ((state_in c).nodes.status m))
-      → (n < length tree → AreRenewed tree held (locks tree n) old new) → (length tree ≤ n → new ≡ old) → AreMarksOf b old → AreMarksOf c new
+      → (n < length tree → AreRenewed tree held (lead_locks tree n) old new) → (length tree ≤ n → new ≡ old) → AreMarksOf b old → AreMarksOf c new
   marks-after n held old new s each renewed past o =
       elim (cases_lt n (length tree)) [
         | inl low ↦ marks-renewed n held old new s each (renewed low) o
@@ -165,7 +171,7 @@ module _ (b c : BookView) (plans : c.plan ≡ b.plan) (t : IsTree (tree_of c.pla
   -- a worker left a body of a node
   pub marks-left : (kind : BodyKind) (n : ℕ) (held : List Bool) (old new : KeysView) → HoldAfter kind n b c
       → ((m : ℕ) → m < length c.plan.rows → is_held held m ≡ States.is_held ((state_in c).nodes.status m))
-      → (kind ≡ BeforeAll → new ≡ old) → (kind ≢ BeforeAll → n < length tree → AreRenewed tree held (locks tree n) old new) → (length tree ≤ n → new ≡ old) → AreMarksOf b old
+      → (kind ≡ BeforeAll → new ≡ old) → (kind ≢ BeforeAll → n < length tree → AreRenewed tree held (lead_locks tree n) old new) → (length tree ≤ n → new ≡ old) → AreMarksOf b old
       → AreMarksOf c new
   marks-left BeforeAll n held old new h each same renewed past o = subst (AreMarksOf c) (sym (same refl)) (marks-same old h o)
   marks-left Test n held old new h each same renewed past o = marks-after n held old new h each (renewed (λ e. cc)) past o
@@ -190,6 +196,6 @@ pub marks-new : (plan : Planned) (start : Start) (workers : ℕ) (v : KeysView) 
     → AreMarksOf (new_book plan start workers) v
 marks-new plan start workers v t held written =
     record {
-      written = λ k h. written k ∙ sym (none-taken plan start workers Write k t);
-      held = λ k h. held k ∙ sym (ap₂ (λ (x y : Bool). x || y) (none-taken plan start workers Write k t) (none-taken plan start workers Read k t));
+      written = λ k h l. written k ∙ sym (none-taken plan start workers Write k t);
+      held = λ k h l. held k ∙ sym (ap₂ (λ (x y : Bool). x || y) (none-taken plan start workers Write k t) (none-taken plan start workers Read k t));
     }

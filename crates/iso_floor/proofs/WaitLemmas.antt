@@ -25,6 +25,7 @@ use Rattle.iso_plan.proofs.LockLemmas.{locks-known}
 use Rattle.iso_plan.proofs.PathLemmas.{eq_not}
 use Rattle.iso_plan.specs.Conflicts.{is_in_the_way, lowest, lowest_in_the_way}
 use Rattle.iso_plan.specs.HeldNodes.{is_access, is_held, takes_in}
+use Rattle.iso_plan.specs.KeyGroups.{is_lead}
 use Rattle.iso_plan.specs.KeyTable.{keys}
 use Rattle.iso_plan.specs.Locks.{conflict, locks}
 use Rattle.iso_plan.specs.Paths.{IsTree}
@@ -35,6 +36,7 @@ use Rattle.iso_standing.specs.declared.event.Event.TheVariants.{Enter}
 use Rattle.iso_suites.specs.ScriptLanguage.{scripts}
 use Rattle.iso_floor.proofs.ComingLemmas.{at-refused}
 use Rattle.iso_floor.proofs.HintLemmas.{some-excluded}
+use Rattle.iso_floor.proofs.LeadLemmas.{lead-taken}
 use Rattle.iso_floor.proofs.OwnerLemmas.{line-refused}
 use Rattle.iso_floor.proofs.PostingLemmas.{comes-later}
 use Rattle.iso_floor.proofs.TakenLemmas.{held-at}
@@ -79,10 +81,10 @@ excluded-among tree held a k (l ∷ ls) h x =
     found-by tree held a k l ls (l.key == k && is_access a l.access) refl h x (λ g. excluded-among tree held a k ls g x)
 
 -- a key that excludes who stands in a line is taken so that it excludes a lock
-excluded-by : (b : BookView) (s : SchedulerView) (m : AreMarksOf b s.keys) (k : ℕ) (w : Bool) → k < 256 → cond w (has s.keys.held k) (has s.keys.written k) ≡ true
+excluded-by : (b : BookView) (s : SchedulerView) (m : AreMarksOf b s.keys) (k : ℕ) (w : Bool) → k < 256 → is_lead (tree_of b.plan) k ≡ true → cond w (has s.keys.held k) (has s.keys.written k) ≡ true
     → is_excluded (tree_of b.plan) (held_nodes b) (record { key = k; access = cond w Write Read }) ≡ true
-excluded-by b s m k true h e = sym (m.held k h) ∙ e
-excluded-by b s m k false h e = or-true (is_taken (tree_of b.plan) (held_nodes b) Write k) false (sym (m.written k h) ∙ e)
+excluded-by b s m k true h l e = sym (m.held k h l) ∙ e
+excluded-by b s m k false h l e = or-true (is_taken (tree_of b.plan) (held_nodes b) Write k) false (sym (m.written k h l) ∙ e)
 
 lowest-same : (p q : ℕ → Bool) (n : ℕ) → ((m : ℕ) → m < n → p m ≡ q m) → lowest_below n p ≡ lowest q n
 lowest-same p q zero f = refl
@@ -140,9 +142,10 @@ refused-all : (b : BookView) (s : SchedulerView) (w : ℕ) (p : Party) → AreMa
 refused-all b s w p marks right nothing n l of stands =
     let tree = tree_of b.plan in
     let takes : Takes tree n l = right n l stands in
+    let own = lead-taken tree n (access_in l) l.key takes.taken in
     let closed : excludes s.keys.held s.keys.written l ≡ true = none-free (excludes s.keys.held s.keys.written l) (λ free. nothing l of (record { waits = (n, stands); free = free })) in
     let among : list_any (is_excluded tree (held_nodes b)) (locks tree n) ≡ true =
-    excluded-among tree (held_nodes b) (access_in l) l.key (locks tree n) takes.taken (excluded-by b s marks l.key l.writes takes.known closed) in
+    excluded-among tree (held_nodes b) (access_in l) l.key (locks tree n) own.1 (excluded-by b s marks l.key l.writes takes.known own.0 closed) in
     refused-held b w n (some-excluded tree (held_nodes b) n (recursion_from_All (λ (k : Lock). k.key < length (keys tree)) (locks tree n) (locks-known tree n)) ∙ among)
 
 pub enter-none : (b : BookView) (s : SchedulerView) (w : ℕ) (is_over : Bool) (seen : Option ℕ) → AreMarksOf b s.keys → WaitRightly (tree_of b.plan) s.table.places

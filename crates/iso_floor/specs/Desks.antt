@@ -1,12 +1,12 @@
 -- What contracts see of a desk, and what its scheduler says truly of its book.
 --
--- desk: A book with its scheduler (`DeskView`), of which the marks are those of the keys that the
--- book's held nodes take (`held_nodes`, `AreMarksOf`), each node in a line of a key takes that key
--- with the line's access, each node in a line is the party's, and each node that is with a worker,
--- open or over is so in the book, as who has opened up a class is its owner there (`IsAt`,
--- `IsEnteredBy`, `AreOwners`), while none that is Closed is held (`AreClosed`, `IsDesk`); that a
--- class is open for a worker (`IsOpenFor`); that a worker could enter no node that stands in a line,
--- and none that was entered (`CanEnterNone`). No public clause cites it.
+-- desk: A book with its scheduler (`DeskView`), of which the marks of leads are those of the keys
+-- that the book's held nodes take (`held_nodes`, `AreMarksOf`), each node in a line of a key takes
+-- that key, which is a lead, with the line's access, each node in a line is the party's, and each
+-- node that is with a worker, open or over is so in the book, as who has opened up a class is its
+-- owner there (`IsAt`, `IsEnteredBy`, `AreOwners`), while none that is Closed is held (`AreClosed`,
+-- `IsDesk`); that a class is open for a worker (`IsOpenFor`); that a worker could enter no node
+-- that stands in a line, and none that was entered (`CanEnterNone`). No public clause cites it.
 use Rattle.std.specs.Prelude.{◌≡◌, ◌≢◌, ◌<◌, ℕ, List, Option, Some, Bool, true, false, None, ◌||◌, length}
 use Rattle.iso_book.specs.Books.{BookView, refusal_in, state_in}
 use Rattle.iso_book.specs.Progress.{owner_in, phase_in}
@@ -25,6 +25,7 @@ use Rattle.iso_floor.specs.Postings.{ArePosted, ComesLater}
 use Rattle.iso_floor.specs.Schedulers.{IsFor, SchedulerView, WaitRightly, is_entered}
 use Rattle.iso_isolation.specs.States.{is_held}
 use Rattle.iso_model.specs.declared.access.Access.TheVariants.{Read, Write}
+use Rattle.iso_plan.specs.KeyGroups.{is_lead}
 use Rattle.iso_plan.specs.Paths.{column}
 use Rattle.iso_plan.specs.Planned.{Planned}
 use Rattle.iso_plan.specs.RowView.{tree_of}
@@ -42,11 +43,12 @@ pub record DeskView : Type 0 where
 abbrev pub held_nodes : BookView → List Bool
 held_nodes b = column (λ n. is_held ((state_in b).nodes.status n)) (length b.plan.rows)
 
--- the marks are those of the keys that the held nodes of a book take
+-- the marks of leads are those of the keys that the held nodes of a book take
 pub record AreMarksOf (b : BookView) (v : KeysView) : Type 0 where
-  pub written : (k : ℕ) → k < 256 → has v.written k
+  pub written : (k : ℕ) → k < 256 → is_lead (tree_of b.plan) k ≡ true → has v.written k
       ≡ is_taken (tree_of b.plan) (held_nodes b) Write k
-  pub held : (k : ℕ) → k < 256 → has v.held k ≡ (is_taken (tree_of b.plan) (held_nodes b) Write k
+  pub held : (k : ℕ) → k < 256 → is_lead (tree_of b.plan) k ≡ true → has v.held k
+      ≡ (is_taken (tree_of b.plan) (held_nodes b) Write k
       || is_taken (tree_of b.plan) (held_nodes b) Read k)
 
 -- a node of a book has come so far that it may have a place: with a worker it is held and that
@@ -81,10 +83,11 @@ AreClosed b places = (n : ℕ) → n < length b.plan.rows → place_of places n 
     → (n ≢ 0) × (is_held ((state_in b).nodes.status n) ≡ false)
 
 -- What every desk is: the book is of its ground, the scheduler is for its nodes and workers, the
--- marks are those of the keys that the book's held nodes take, each node in a line of a key takes
--- that key with the line's access, each node has come so far that it may have its place, each node
--- in a line is the party's, who has opened up a class is its owner, no node that is Closed is held,
--- and where there are workers the CONCURRENT children of each open class were posted.
+-- marks of leads are those of the keys that the book's held nodes take, each node in a line of a
+-- key takes that key, which is a lead, with the line's access, each node has come so far that it
+-- may have its place, each node in a line is the party's, who has opened up a class is its owner,
+-- no node that is Closed is held, and where there are workers the CONCURRENT children of each open
+-- class were posted.
 pub record IsDesk (plan : Planned) (start : Start) (workers : ℕ) (b : BookView)
     (s : SchedulerView) : Type 0 where
   pub book : IsBookOf plan start workers b

@@ -4,13 +4,13 @@
 -- put or taken next (`put`, `next_taken`), the line in which a node waits (`waiting_line`), which
 -- node a worker attempts or shuts next, and that there is none (`IsNextNode`, `HasNone`); who has
 -- nothing to wake for (`HasNothingIn`); how many nodes are loose (`loose_in`); that each node in a
--- line of a key takes that key with the line's access (`Takes`, `WaitRightly`); which nodes have
--- the place of one that was entered (`is_entered`), and that a step gives that to none, or to one
--- (`KeepsPlaces`, `IsMoved`); who has opened a class up (`owner_of`), and that each node in a line
--- is the party's whose line it is (`IsOwned`, `BelongsTo`, `StandRightly`, `KeepsStands`), so that
--- a worker may attempt it (`MayTry`); that a step makes no node Closed (`ClosesNone`), that each
--- CONCURRENT child of an open class was posted (`IsPosted`, `ArePosted`), and that a node comes
--- later (`ComesLater`). No public clause cites it.
+-- line of a key takes that key, which is a lead, with the line's access (`Takes`, `WaitRightly`);
+-- which nodes have the place of one that was entered (`is_entered`), and that a step gives that to
+-- none, or to one (`KeepsPlaces`, `IsMoved`); who has opened a class up (`owner_of`), and that each
+-- node in a line is the party's whose line it is (`IsOwned`, `BelongsTo`, `StandRightly`,
+-- `KeepsStands`), so that a worker may attempt it (`MayTry`); that a step makes no node Closed
+-- (`ClosesNone`), that each CONCURRENT child of an open class was posted (`IsPosted`, `ArePosted`),
+-- and that a node comes later (`ComesLater`). No public clause cites it.
 -- Also in: `Nexts`, `Parties`, `Postings`.
 use Rattle.std.specs.Prelude.{◌≡◌, ◌≢◌, ◌<◌, ◌==◌, ℕ, List, Option, None, Some, Bool, true, false, cond, is_some, length, not}
 use Rattle.iso_desk.specs.Crews.{HasNothing}
@@ -30,7 +30,8 @@ use Rattle.iso_model.specs.declared.access.Access.TheVariants.{Read, Write}
 use Rattle.iso_model.specs.declared.script.Mode.{Mode}
 use Rattle.iso_model.specs.declared.script.Mode.TheVariants.{Concurrent, SameThread}
 use Rattle.iso_plan.specs.HeldNodes.{count, takes_in}
-use Rattle.iso_plan.specs.Locks.{is_write, locks}
+use Rattle.iso_plan.specs.KeyGroups.{lead_locks}
+use Rattle.iso_plan.specs.Locks.{is_write}
 use Rattle.iso_plan.specs.Planned.{Planned}
 use Rattle.iso_plan.specs.Tree.{Row}
 use Rattle.iso_plan.specs.declared.lock.Lock.{Lock}
@@ -95,12 +96,12 @@ HasNothingIn s is_over w seen = HasNothing s.table.places s.keys.held s.keys.wri
 abbrev pub access_in : KeyLine → Access
 access_in l = cond l.writes Write Read
 
--- a node takes the key of a line with the line's access
+-- a node takes the key of a line with the line's access, and the key is a lead
 pub record Takes (tree : List Row) (n : ℕ) (l : KeyLine) : Type 0 where
   pub known : l.key < 256
-  pub taken : takes_in (access_in l) l.key (locks tree n) ≡ true
+  pub taken : takes_in (access_in l) l.key (lead_locks tree n) ≡ true
 
--- each node that stands in a line of a key takes that key with the line's access
+-- each node that stands in a line of a key takes that key, which is a lead, with the line's access
 abbrev pub WaitRightly : List Row → List Place → Type 0
 WaitRightly tree places = (n : ℕ) (l : KeyLine) → StandsIn places (Key l) n → Takes tree n l
 
@@ -108,7 +109,7 @@ WaitRightly tree places = (n : ℕ) (l : KeyLine) → StandsIn places (Key l) n 
 abbrev pub KeepsSizes : (old new : SchedulerView) → Type 0
 KeepsSizes old new = (nodes workers : ℕ) → IsFor nodes workers old → IsFor nodes workers new
 
--- a step puts no node in a line whose key it doesn't take with the line's access
+-- a step puts no node in a line whose key it doesn't take with the line's access, or is no lead
 abbrev pub KeepsLines : (old new : SchedulerView) → Type 0
 KeepsLines old new = (tree : List Row) → WaitRightly tree old.table.places
     → WaitRightly tree new.table.places

@@ -43,7 +43,7 @@ fn is_first_writer(plan: &Plan, node: u32, written: &mut Vec<bool>) -> bool {
     if node >= plan.len() {
         return false;
     }
-    for lock in plan.locks(node) {
+    for lock in plan.lead_locks(node) {
         if lock.access == Access::Write {
             return match written.get_mut(lock.key as usize) {
                 Some(noted) => !std::mem::replace(noted, true),

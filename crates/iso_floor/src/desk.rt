@@ -12,7 +12,7 @@ ghost use Rattle.iso_floor.specs.Postings.{ClosesNone, IsPosted};
 ghost use Rattle.iso_floor.specs.Schedulers.{KeepsLines, KeepsPlaces, KeepsSizes, KeepsStands};
 ghost use Rattle.iso_locks.specs.Trays.{is_lent};
 ghost use Rattle.iso_plan.specs.HeldNodes.{takes_in};
-ghost use Rattle.iso_plan.specs.Locks.{locks};
+ghost use Rattle.iso_plan.specs.KeyGroups.{lead_locks};
 ghost use Rattle.iso_standing.specs.CodeEvents.{refused_of};
 
 use crate::ground::Ground;
@@ -228,7 +228,8 @@ impl<'a, G: Ground> Desk<'a, G> {
     /// A lock of a node whose key is in its way, if there is one: it makes the book refuse it.
     pub(crate) fn lock_in_the_way(&mut self, node: u32) -> Option<Lock>
         ensures book { self.new ≡ self.old }
-        ensures own { IfSome result (λ l. takes_in l.access l.key (locks G.plan.rows node) ≡ true) }
+        ensures own { IfSome result
+            (λ l. takes_in l.access l.key (lead_locks G.plan.rows node) ≡ true) }
     {
         let plan = self.book.plan();
         if node >= plan.len() {
@@ -240,7 +241,7 @@ impl<'a, G: Ground> Desk<'a, G> {
     /// A node waits for the key of one of its locks that is in its way, for a worker to attempt it
     /// later.
     pub(crate) fn wait_for(&mut self, node: u32, lock: Lock, worker: u32) -> Result<(), AllocError>
-        requires takes { takes_in lock.access lock.key (locks G.plan.rows node) ≡ true }
+        requires takes { takes_in lock.access lock.key (lead_locks G.plan.rows node) ≡ true }
         requires own { MayTry G.plan self.old.scheduler.owners node worker }
         ensures { self.new.book ≡ self.old.book }
     {

@@ -4,8 +4,8 @@ ghost use Rattle.std.specs.List.{All, list_any};
 ghost use Rattle.iso_floor.specs.KeyMarks.{is_excluded};
 ghost use Rattle.iso_plan.specs.Conflicts.{lowest_in_the_way};
 ghost use Rattle.iso_plan.specs.HeldNodes.{is_held, takes_in};
+ghost use Rattle.iso_plan.specs.KeyGroups.{lead_locks};
 ghost use Rattle.iso_plan.specs.KeyTable.{keys};
-ghost use Rattle.iso_plan.specs.Locks.{locks};
 ghost use Rattle.iso_plan.specs.RowView.{tree_of};
 
 use iso_model::access::Access;
@@ -63,8 +63,8 @@ impl Hints {
         })
     }
 
-    /// A lock of a node on whose key a held node excludes it; the one that is looked at first, or
-    /// else the first of its locks. None where no held node conflicts with the node.
+    /// A lead lock of a node on whose key a held node excludes it; the one that is looked at first,
+    /// or else the first of them. None where no held node conflicts with the node.
     pub(crate) fn lock_in_the_way(
         &mut self,
         plan: &Plan,
@@ -75,12 +75,12 @@ impl Hints {
         requires node { node < length plan.now.rows }
         ensures key { IfSome result (λ l. l.key < length (keys (tree_of plan.now))) }
         ensures own { IfSome result
-            (λ l. takes_in l.access l.key (locks (tree_of plan.now) node) ≡ true) }
+            (λ l. takes_in l.access l.key (lead_locks (tree_of plan.now) node) ≡ true) }
         ensures excluded { MatchOption result
             (is_some (lowest_in_the_way (tree_of plan.now) (is_held held.now.held) node) ≡ false)
             (λ l. is_excluded (tree_of plan.now) held.now.held l ≡ true) }
     {
-        let locks = plan.locks(node);
+        let locks = plan.lead_locks(node);
         let place = self.places.get(node as usize).copied().unwrap_or(0);
         let hint = self.keys.get(place as usize).copied().unwrap_or(0);
         if let Some(lock) = excluded_on(held, locks, hint) {

@@ -1,4 +1,5 @@
-//! Which keys the held nodes take, as marks: what is on offer is read off them.
+//! Which keys the held nodes take, as marks: what is on offer is read off them. Of keys that all
+//! nodes take alike the lowest alone is marked, their lead (`Plan::lead`): it tells of the others.
 ghost use Rattle.std.specs.Prelude.{◌≡◌, ◌<◌, ◌≤◌, ◌==◌, ◌||◌, ℕ, IfOk, cond, false, length, true};
 ghost use Rattle.std.specs.List.{All};
 ghost use Rattle.iso_desk.specs.Marking.{has, room};
@@ -16,7 +17,7 @@ use std::marker::Model;
 /// The most keys that a plan has, the global key among them.
 pub(crate) const KEYS: usize = 256;
 
-/// The keys that a held node takes, and those that one takes for READ_WRITE.
+/// Of the leads of keys those that a held node takes, and those that one takes for READ_WRITE.
 #[derive(Drop)]
 pub(crate) struct HeldKeys {
     held: Marks,

@@ -1,11 +1,13 @@
 //! The nodes of a plan, by any numbers.
 ghost use Rattle.std.specs.Prelude.{◌≡◌, ◌<◌, ◌≤◌, [], false, length, true};
 ghost use Rattle.iso_model.specs.declared.script.Mode.TheVariants.{Concurrent, SameThread};
+ghost use Rattle.iso_plan.specs.Locks.{takes_write};
 ghost use Rattle.iso_plan.specs.Modes.{mode};
 ghost use Rattle.iso_plan.specs.Paths.{children};
 ghost use Rattle.iso_plan.specs.RowView.{tree_of};
 
 use iso_model::script::Mode;
+use iso_plan::lock::takes_write;
 use iso_plan::plan::Plan;
 
 /// Whether a node may run beside what its class's owner does.
@@ -21,6 +23,14 @@ pub(crate) fn is_concurrent(plan: &Plan, node: u32) -> bool
         Mode::Concurrent => true,
         Mode::SameThread => false,
     }
+}
+
+/// Whether a node takes a key for READ_WRITE: then it takes the key's lead so.
+pub(crate) fn is_writer(plan: &Plan, node: u32) -> bool
+    requires { node < length plan.now.rows }
+    ensures { result ≡ takes_write (tree_of plan.now) node }
+{
+    takes_write(plan.lead_locks(node))
 }
 
 /// The children of a class.

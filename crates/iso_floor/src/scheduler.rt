@@ -7,7 +7,8 @@
 //! 3. At first the root is open: its CONCURRENT children lie in worker 0's deque, and its first
 //!    SAME_THREAD child stands in worker 0's own line.
 //! 4. A key is in a node's way where a held node takes it, one of the two for READ_WRITE. Which key
-//!    that is follows from the book's counts alone, and is stored nowhere.
+//!    that is follows from the book's counts alone, and is stored nowhere. Of keys that all nodes
+//!    take alike the lowest alone is looked at, their lead.
 //! 5. A node that was taken out of a deque or a line is in a hand. It is attempted: where no key is
 //!    in its way, it is entered. Else it stands at the end of a line of that key: it waits for the
 //!    key, and behind no node.
@@ -40,8 +41,8 @@ ghost use Rattle.iso_floor.specs.Postings.{ClosesNone};
 ghost use Rattle.iso_lifecycle.specs.declared.kind.BodyKind.TheVariants.{BeforeAll};
 ghost use Rattle.iso_model.specs.declared.script.Mode.TheVariants.{SameThread};
 ghost use Rattle.iso_plan.specs.HeldNodes.{takes_in};
+ghost use Rattle.iso_plan.specs.KeyGroups.{lead_locks};
 ghost use Rattle.iso_plan.specs.KeyTable.{keys};
-ghost use Rattle.iso_plan.specs.Locks.{locks};
 ghost use Rattle.iso_plan.specs.Modes.{mode};
 ghost use Rattle.iso_plan.specs.Paths.{parent};
 ghost use Rattle.iso_plan.specs.Planned.{Planned};
@@ -288,7 +289,8 @@ impl Scheduler {
         ensures same { OnErr result (self.new ≡ self.old) }
         ensures rest { self.new ≡ record self.old { table = self.new.table } }
         ensures sizes { KeepsSizes self.old self.new }
-        ensures lines { (tree : List Row) → takes_in lock.access lock.key (locks tree node) ≡ true
+        ensures lines { (tree : List Row)
+            → takes_in lock.access lock.key (lead_locks tree node) ≡ true
             → WaitRightly tree self.old.table.places → WaitRightly tree self.new.table.places }
         ensures places { KeepsPlaces self.old self.new }
         ensures stands { MayTry plan.now self.old.owners node worker
@@ -320,7 +322,7 @@ impl Scheduler {
           keys = self.new.keys;
         } }
         ensures keys { node < length plan.now.rows → AreRenewed (tree_of plan.now) held.now.held
-            (locks (tree_of plan.now) node) self.old.keys self.new.keys }
+            (lead_locks (tree_of plan.now) node) self.old.keys self.new.keys }
         ensures past { length plan.now.rows ≤ node → self.new.keys ≡ self.old.keys }
         ensures sizes { KeepsSizes self.old self.new }
         ensures lines { KeepsLines self.old self.new }
@@ -354,7 +356,7 @@ impl Scheduler {
         ensures stays { kind ≡ BeforeAll → self.new ≡ self.old }
         ensures keys { kind ≢ BeforeAll → node < length plan.now.rows
             → AreRenewed (tree_of plan.now) held.now.held
-            (locks (tree_of plan.now) node) self.old.keys self.new.keys }
+            (lead_locks (tree_of plan.now) node) self.old.keys self.new.keys }
         ensures past { length plan.now.rows ≤ node → self.new.keys ≡ self.old.keys }
         ensures sizes { KeepsSizes self.old self.new }
         ensures lines { KeepsLines self.old self.new }
@@ -392,7 +394,7 @@ impl Scheduler {
     fn finish(&mut self, plan: &Plan, held: &HeldNodes<'_>, node: u32) -> Result<(), AllocError>
         requires { plan.now ≡ held.now.plan }
         ensures keys { node < length plan.now.rows → AreRenewed (tree_of plan.now) held.now.held
-            (locks (tree_of plan.now) node) self.old.keys self.new.keys }
+            (lead_locks (tree_of plan.now) node) self.old.keys self.new.keys }
         ensures past { length plan.now.rows ≤ node → self.new.keys ≡ self.old.keys }
         ensures rest { self.new ≡ record self.old { table = self.new.table; keys = self.new.keys } }
         ensures sizes { KeepsSizes self.old self.new }
@@ -412,7 +414,7 @@ impl Scheduler {
     fn end(&mut self, plan: &Plan, held: &HeldNodes<'_>, node: u32, class: u32)
         requires { plan.now ≡ held.now.plan }
         ensures keys { node < length plan.now.rows → AreRenewed (tree_of plan.now) held.now.held
-            (locks (tree_of plan.now) node) self.old.keys self.new.keys }
+            (lead_locks (tree_of plan.now) node) self.old.keys self.new.keys }
         ensures past { length plan.now.rows ≤ node → self.new.keys ≡ self.old.keys }
         ensures rest { self.new ≡ record self.old { table = self.new.table; keys = self.new.keys } }
         ensures sizes { KeepsSizes self.old self.new }
@@ -621,17 +623,17 @@ impl Scheduler {
         Ok(())
     }
 
-    /// The keys of a node that was entered or is over are as the nodes hold them that are held.
+    /// The leads of a node that was entered or is over are as the nodes hold them that are held.
     fn renew(&mut self, plan: &Plan, held: &HeldNodes<'_>, node: u32)
         requires { plan.now ≡ held.now.plan }
         ensures keys { node < length plan.now.rows → AreRenewed (tree_of plan.now) held.now.held
-            (locks (tree_of plan.now) node) self.old.keys self.new.keys }
+            (lead_locks (tree_of plan.now) node) self.old.keys self.new.keys }
         ensures past { length plan.now.rows ≤ node → self.new.keys ≡ self.old.keys }
         ensures rest { self.new ≡ record self.old { keys = self.new.keys } }
         ensures sizes { KeepsSizes self.old self.new }
     {
         if node < plan.len() {
-            self.keys.renew(held, plan.locks(node));
+            self.keys.renew(held, plan.lead_locks(node));
         }
     }
 

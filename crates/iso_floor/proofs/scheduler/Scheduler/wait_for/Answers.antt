@@ -1,7 +1,7 @@
 use Rattle.std.proofs.Common.{ap, subst, sym, ◌∙◌}
 use Rattle.iso_model.specs.declared.access.Access.{Access}
 use Rattle.iso_plan.specs.HeldNodes.{takes_in}
-use Rattle.iso_plan.specs.Locks.{locks}
+use Rattle.iso_plan.specs.KeyGroups.{lead_locks}
 use Rattle.iso_floor.proofs.RightLemmas.{access-by, right-after, right-lined}
 use Rattle.iso_floor.proofs.PlaceLemmas.{keeps-lined}
 use Rattle.iso_floor.specs.Parties.{BelongsTo}
@@ -19,7 +19,7 @@ returns-clause-lines c =
     right-after lined.result tree c.args.self.now lined.new.self _ lined.ensures.stands lined.ensures.same
     (right-lined tree c.args.self.now.table n _ (record {
       known = c.if-lock-ge-KEYS.false;
-      taken = ap (λ (a : Access). takes_in a k.key (locks tree n)) (access-by k.access c.eq.result c.eq.ensures) ∙ takes;
+      taken = ap (λ (a : Access). takes_in a k.key (lead_locks tree n)) (access-by k.access c.eq.result c.eq.ensures) ∙ takes;
     }))
     right
 

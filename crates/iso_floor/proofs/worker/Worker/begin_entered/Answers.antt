@@ -1,9 +1,8 @@
 use Rattle.std.proofs.Common.{◌≡◌, ◌<◌, ℕ, Bool, false, true, length, refl, ap, sym, ◌∙◌, subst}
-use Rattle.std.specs.List.{list_any}
 use Rattle.iso_floor.proofs.FreeTrays.{FindsItsValues, done-free, entered-free, free-entry, free-within}
 use Rattle.iso_floor.proofs.NodeTrays.{opening-can, test-can}
 use Rattle.iso_locks.specs.Trays.{TrayView}
-use Rattle.iso_plan.specs.Locks.{is_write, takes_write}
+use Rattle.iso_plan.specs.Locks.{takes_write}
 use Rattle.iso_plan.specs.Paths.{IsTree, is_test, row_at}
 use Rattle.iso_plan.specs.Planned.{Planned}
 use Rattle.iso_plan.specs.RowView.{tree_of}
@@ -32,8 +31,8 @@ writes-in p plan n b e is = ap (λ (x : Planned). takes_write (tree_of x) n) (sy
 test-in : (p plan : Planned) (n : ℕ) (b : Bool) → p ≡ plan → is_test (row_at (tree_of p) n).kind ≡ b → is_test (row_at (tree_of plan) n).kind ≡ b
 test-in p plan n b e is = ap (λ (x : Planned). is_test (row_at (tree_of x) n).kind) (sym e) ∙ is
 
-pub locks-requires : goal.locks-requires
-locks-requires g c =
+pub is_writer-requires : goal.is_writer-requires
+is_writer-requires g c =
     let plan = g.G.Ground.plan in
     let tree = tree-in c.plan-plan.result.now plan c.plan-plan.ensures c.nodes_are_a_tree.ensures in
     within-in c.plan-plan.result.now plan c.args.node c.plan-plan.ensures (free-within plan g.G.Ground.start tree c.args.node c.args.seat.now.tray c.tray.ensures.ground.plan_is c.requires)
@@ -59,7 +58,7 @@ perform_and_turn-requires-clause-free g c =
     let plan = g.G.Ground.plan in
     let tree = tree-in c.plan-plan.result.now plan c.plan-plan.ensures c.nodes_are_a_tree.ensures in
     entered-free plan g.G.Ground.start tree c.args.node c.args.seat.now.tray c.tray.ensures.ground.plan_is c.requires
-    (writes-in c.plan-plan.result.now plan c.args.node false c.plan-plan.ensures (ap (list_any is_write) (sym c.locks.ensures.locks) ∙ sym c.takes_write.ensures ∙ c.if-takes_write.false))
+    (writes-in c.plan-plan.result.now plan c.args.node false c.plan-plan.ensures (sym c.is_writer.ensures ∙ c.if-is_writer.false))
 
 pub perform_and_turn-requires-else-is_test-clause-can : goal.perform_and_turn-requires-else-is_test-clause-can
 perform_and_turn-requires-else-is_test-clause-can g c =
@@ -76,10 +75,10 @@ perform_and_turn-requires-else-is_test-clause-free g c =
     let plan = g.G.Ground.plan in
     let tree = tree-in c.plan-plan.result.now plan c.plan-plan.ensures c.nodes_are_a_tree.ensures in
     entered-free plan g.G.Ground.start tree c.args.node c.args.seat.now.tray c.tray.ensures.ground.plan_is c.requires
-    (writes-in c.plan-plan.result.now plan c.args.node false c.plan-plan.ensures (ap (list_any is_write) (sym c.locks.ensures.locks) ∙ sym c.takes_write.ensures ∙ c.if-takes_write.false))
+    (writes-in c.plan-plan.result.now plan c.args.node false c.plan-plan.ensures (sym c.is_writer.ensures ∙ c.if-is_writer.false))
 
-pub returns-then-takes_write : goal.returns-then-takes_write
-returns-then-takes_write g c =
+pub returns-then-is_writer : goal.returns-then-is_writer
+returns-then-is_writer g c =
     let plan = g.G.Ground.plan in
     let tree = tree-in c.plan-plan.result.now plan c.plan-plan.ensures c.nodes_are_a_tree.ensures in
     let law = law-in c.tray.result.now c.args.seat.now.tray c.tray.ensures.tray c.lent_nodes_find_their_values.ensures.written in
