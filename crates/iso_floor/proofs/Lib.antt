@@ -1,4 +1,5 @@
 pub mod Answered
+pub mod AsleepLemmas
 pub mod AuditLemmas
 pub mod Begun
 pub mod ComingLemmas

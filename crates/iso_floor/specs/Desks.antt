@@ -6,7 +6,10 @@
 -- node that is with a worker, open or over is so in the book, as who has opened up a class is its
 -- owner there (`IsAt`, `IsEnteredBy`, `AreOwners`), while none that is Closed is held (`AreClosed`,
 -- `IsDesk`); that a class is open for a worker (`IsOpenFor`); that a worker could enter no node
--- that stands in a line, and none that was entered (`CanEnterNone`). No public clause cites it.
+-- that stands in a line, and none that was entered (`CanEnterNone`), and shut no class of its own
+-- line (`CanShutNone`); that each worker that is named is one of the floor's (`AreWorkers`); what is
+-- left of a run that sleeps (`IsAsleep`, `IsEnterLeft`, `IsShutLeft`). No public clause cites it.
+-- Also in: `Asleep`.
 use Rattle.std.specs.Prelude.{◌≡◌, ◌≢◌, ◌<◌, ℕ, List, Option, Some, Bool, true, false, None, ◌||◌, length}
 use Rattle.iso_book.specs.Books.{BookView, refusal_in, state_in}
 use Rattle.iso_book.specs.Progress.{owner_in, phase_in}

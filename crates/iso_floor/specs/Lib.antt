@@ -1,4 +1,5 @@
 pub mod Answering
+pub mod Asleep
 pub mod Auditing
 pub mod Audits
 pub mod Closing

@@ -1,10 +1,11 @@
 //! What lies under the lock of a floor.
-ghost use Rattle.std.specs.Prelude.{◌≡◌, ◌<◌, ℕ, IfOk, IfSome, IsTrue, MatchResult, None, OnOk, length, not, true};
+ghost use Rattle.std.specs.Prelude.{◌≡◌, ◌<◌, ◌⊎◌, ℕ, IfOk, IfSome, IsTrue, MatchResult, None, OnOk, length, not, true};
 ghost use Rattle.iso_book.specs.Books.{BookView};
 ghost use Rattle.iso_book.specs.Leaves.{IsLeft, IsNotLeft, MayBring, after_leave};
 ghost use Rattle.iso_book.specs.Turns.{GoesOnWith, IsEntered, IsNotTaken, IsShut, IsTaken, MayEnterWith, ReadsStart};
 ghost use Rattle.iso_desk.specs.Crews.{awaits, member_of};
 ghost use Rattle.iso_floor.specs.Answering.{HasRun, has_changed};
+ghost use Rattle.iso_floor.specs.Asleep.{AreWorkers, CanShutNone, IsAsleep, IsEnterLeft, IsShutLeft};
 ghost use Rattle.iso_floor.specs.Desks.{CanEnterNone, IsOpenFor};
 ghost use Rattle.iso_floor.specs.Grounds.{IsBookOf, IsTrayOf};
 ghost use Rattle.iso_floor.specs.Parties.{MayTry};
@@ -105,14 +106,21 @@ impl<'a, G: Ground> Desk<'a, G> {
     /// Whom the event that was booked wakes: those who wait for a change, where somebody does, and
     /// one worker that waits and has something to wake for, which is called by it. Where nobody is
     /// called, no worker that waits and wasn't called could enter a node in its own lines or in
-    /// everyone's, or one that was entered.
+    /// everyone's, or one that was entered, or shut a class in its own line; and where all wait, no
+    /// body is under way and the run isn't over, something is left that one of them could enter or
+    /// shut.
     #[inline(always)]
     pub(crate) fn wakes(&mut self) -> Wakes
         ensures book { self.new.book ≡ self.old.book }
         ensures nobody { result.worker ≡ None → (w : ℕ) → w < length self.old.scheduler.members
             → awaits (member_of self.old.scheduler.members w) ≡ true → CanEnterNone self.old w }
+        ensures shuts { result.worker ≡ None → (w : ℕ) → w < length self.old.scheduler.members
+            → awaits (member_of self.old.scheduler.members w) ≡ true → CanShutNone self.old w }
+        ensures asleep { result.worker ≡ None → IsAsleep self.old
+            → IsEnterLeft self.old ⊎ IsShutLeft self.old }
     {
         laws::nodes_are_a_tree(self.book.plan());
+        let _history = self.book.history();
         let is_over = self.is_over();
         Wakes {
             watchers: self.watching > 0,
@@ -163,10 +171,12 @@ impl<'a, G: Ground> Desk<'a, G> {
     /// that was taken out is never posted again. It was tried, or the worker that took it will try
     /// it. So no node is left in the deque of a worker that sleeps or has ended.
     ///
-    /// Where it answers true, the worker could enter no node now of its own lines or of everyone's.
+    /// Where it answers true, the worker could enter no node now of its own lines or of everyone's,
+    /// and shut no class of its own line.
     pub(crate) fn stays(&mut self, worker: u32) -> bool
         ensures book { self.new.book ≡ self.old.book }
         ensures nothing { worker < G.workers → result ≡ true → CanEnterNone self.old worker }
+        ensures shuts { worker < G.workers → result ≡ true → CanShutNone self.old worker }
     {
         laws::nodes_are_a_tree(self.book.plan());
         let is_over = self.is_over();
@@ -375,11 +385,14 @@ impl<'a, G: Ground> Desk<'a, G> {
         self.length() <= seen && !self.book.is_stopped() && !self.book.complete()
     }
 
-    /// The history of its book in full is a run, and the book is of the floor's ground.
+    /// The history of its book in full is a run, and the book is of the floor's ground; who is named
+    /// in the table, or owns a class, is one of the floor's workers.
     pub(crate) fn keep_run(&self)
         ensures run { HasRun self.now.book }
         ensures ground { IsBookOf G.plan G.start G.workers self.now.book }
+        ensures workers { 0 < G.workers → AreWorkers G.workers self.now.scheduler }
     {
+        laws::nodes_are_a_tree(self.book.plan());
         let _history = self.book.history();
     }
 

@@ -1,3 +1,4 @@
+use Rattle.iso_floor.proofs.AsleepLemmas.{desk-left-asleep, desk-shuts}
 use Rattle.iso_floor.proofs.DeskLemmas.{desk-members, desk-none, none-told}
 use Rattle.iso_floor.proofs.desk.Desk.wakes.Goals as goal
 
@@ -15,3 +16,17 @@ returns-clause-nobody g c =
     rw (← c.self.view_is) (λ none w below waits.
     desk-none g.G.Ground.plan g.G.Ground.start g.G.Ground.workers i.book i.scheduler w c.is_over-is_over.result _ c.plan.result.now c.nodes_are_a_tree.ensures c.plan.ensures c.self.invariant.desk
     (none-told c.call.result _ _ c.call.ensures.whom none w below waits))
+
+pub returns-clause-shuts : goal.returns-clause-shuts
+returns-clause-shuts g c =
+    let i = c.self.inside in
+    rw (← c.self.view_is) (λ none w below waits.
+    desk-shuts g.G.Ground.plan g.G.Ground.start g.G.Ground.workers i.book i.scheduler c.self.invariant.desk c.plan.result.now c.nodes_are_a_tree.ensures c.plan.ensures w c.is_over-is_over.result _
+    (none-told c.call.result _ _ c.call.ensures.whom none w below waits))
+
+pub returns-clause-asleep : goal.returns-clause-asleep
+returns-clause-asleep g c =
+    let i = c.self.inside in
+    rw (← c.self.view_is) (λ none asleep.
+    desk-left-asleep g.G.Ground.plan g.G.Ground.start g.G.Ground.workers i.book i.scheduler c.self.invariant.desk c.plan.result.now c.nodes_are_a_tree.ensures c.plan.ensures
+    c.history-history.ensures.run c.is_over-is_over.result (none-told c.call.result _ _ c.call.ensures.whom none) asleep)
