@@ -17,13 +17,13 @@ use Rattle.iso_progress.specs.Candidates.{NoneAtWork}
 use Rattle.iso_standing.specs.declared.event.Event.TheVariants.{Enter, Shut}
 use Rattle.iso_suites.specs.ScriptLanguage.{scripts}
 
--- a party is everyone, or one of so many workers
+-- a party is everyone, or one of the workers, who are `workers`
 abbrev pub IsPartyOf : ℕ → Party → Type 0
 IsPartyOf workers Everyone = Unit {0}
 IsPartyOf workers (Worker w) = w < workers
 
--- a place names one of so many workers, where it names any: with whom a node is, or whose line it
--- stands in
+-- a place names one of the workers, who are `workers`, where it names any: with whom a node is, or
+-- whose line it stands in
 abbrev pub NamesOneOf : ℕ → Place → Type 0
 NamesOneOf workers Closed = Unit {0}
 NamesOneOf workers Loose = Unit {0}
