@@ -45,7 +45,13 @@ fn add_let<'a>(
             }
             Ok(())
         }
-        Form::If(_, bodies) => {
+        Form::If(_, body) | Form::Repeat(_, body) => {
+            if ended {
+                return Ok(());
+            }
+            add_lets(names, row, body)
+        }
+        Form::IfElse(_, bodies) => {
             if ended {
                 return Ok(());
             }
@@ -53,12 +59,6 @@ fn add_let<'a>(
                 return add_lets(names, row, &bodies.second);
             }
             add_lets(names, row, &bodies.first)
-        }
-        Form::Repeat(_, body) => {
-            if ended {
-                return Ok(());
-            }
-            add_lets(names, row, body)
         }
         Form::Assign(_, _)
         | Form::One(_, _)

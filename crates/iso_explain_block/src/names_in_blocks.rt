@@ -112,11 +112,11 @@ fn add_statement<'a>(
     match (&statement.form, thing) {
         (Form::Two(TwoOperands::SetProp, name, _), Thing::Property)
         | (Form::Two(TwoOperands::WriteFile, name, _), Thing::File) => add_literal(names, name),
-        (Form::If(_, bodies), _) => {
+        (Form::If(_, body) | Form::Repeat(_, body), _) => add_body(names, thing, body),
+        (Form::IfElse(_, bodies), _) => {
             add_body(names, thing, &bodies.first)?;
             add_body(names, thing, &bodies.second)
         }
-        (Form::Repeat(_, body), _) => add_body(names, thing, body),
         _ => Ok(()),
     }
 }

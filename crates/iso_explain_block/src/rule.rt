@@ -54,7 +54,7 @@ pub(crate) fn form_rule(form: &Form) -> &'static str
         Form::Fail(_) => "fail takes no value",
         Form::One(OneOperand::Assert, _) => "assert takes a truth value, as == and < give it",
         Form::Assume(_, _) => "assume takes a truth value, as == and < give it",
-        Form::If(_, _) => "if takes a truth value, as == and < give it",
+        Form::If(_, _) | Form::IfElse(_, _) => "if takes a truth value, as == and < give it",
         Form::Repeat(_, _) => "repeat takes a whole number",
         Form::Two(TwoOperands::AssertEqual, _, _) => "assert_equal compares two values of one kind",
         Form::Two(TwoOperands::SetProp, _, _) =>

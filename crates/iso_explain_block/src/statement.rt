@@ -59,11 +59,11 @@ fn add_inner(alloc: Global, lines: &mut Vec<Text>, row: u32, form: &Form) -> Res
         | Form::Two(_, _, _)
         | Form::Assume(_, _)
         | Form::Fail(_) => Ok(()),
-        Form::If(_, bodies) => {
+        Form::If(_, body) | Form::Repeat(_, body) => add_statements(alloc, lines, row, body),
+        Form::IfElse(_, bodies) => {
             add_statements(alloc, lines, row, &bodies.first)?;
             add_statements(alloc, lines, row, &bodies.second)
         }
-        Form::Repeat(_, body) => add_statements(alloc, lines, row, body),
     }
 }
 
@@ -79,7 +79,8 @@ fn add_own(alloc: Global, lines: &mut Vec<Text>, form: &Form) -> Result<(), Allo
         }
         Form::One(OneOperand::Assert, condition)
         | Form::Assume(condition, _)
-        | Form::If(condition, _) => add_one(alloc, lines, rule, Kind::Flag, condition),
+        | Form::If(condition, _)
+        | Form::IfElse(condition, _) => add_one(alloc, lines, rule, Kind::Flag, condition),
         Form::Repeat(count, _) => add_one(alloc, lines, rule, Kind::Whole, count),
         Form::One(OneOperand::ClearProp | OneOperand::SetLocale | OneOperand::DeleteFile, text) => {
             add_one(alloc, lines, rule, Kind::Text, text)

@@ -2,7 +2,7 @@
 use Rattle.std.proofs.Common.{Result, OnOk, Option, Vec, Box, ◌≡◌, ℕ, List, ◌++◌, rules, refl, sym, ap₂, ◌∙◌, subst}
 use Rattle.std.proofs.lemmas.Result.{on_ok_weaker}
 use Rattle.std.specs.declared.alloc.Global.{Global}
-use Rattle.iso_model.proofs.TreeLemmas.{first_body, second_body, form_of-if, form_of-repeat}
+use Rattle.iso_model.proofs.TreeLemmas.{first_body, second_body, form_of-if, form_of-if_else, form_of-repeat}
 use Rattle.iso_model.specs.Rights.{Rights}
 use Rattle.iso_model.specs.Statements.{State, performed}
 use Rattle.iso_model.specs.Steps.{Piece, begin}
@@ -52,9 +52,12 @@ form_of-assume e reason = search (rules, F.the_lemmas)
 pub stmt_of-assume : (s : Stmt) (e : Expr) (reason : List ℕ) → s.form ≡ F.Assume e reason → stmt_of s ≡ (s.row, plain (S.assume (term_of e) reason))
 stmt_of-assume s e reason is = stmt_of-parts s ∙ rw (is, form_of-assume e reason) refl
 
-pub stmt_of-if : (s : Stmt) (e : Expr) (b : Box TwoBodies Global) → s.form ≡ F.If e b
+pub stmt_of-if : (s : Stmt) (e : Expr) (a : Vec Stmt Global) → s.form ≡ F.If e a → stmt_of s ≡ (s.row, S.choice (term_of e) (block_of a.items) S.no_acts)
+stmt_of-if s e a is = stmt_of-parts s ∙ rw (is, form_of-if e a) refl
+
+pub stmt_of-if_else : (s : Stmt) (e : Expr) (b : Box TwoBodies Global) → s.form ≡ F.IfElse e b
     → stmt_of s ≡ (s.row, S.choice (term_of e) (block_of (first_body b.value)) (block_of (second_body b.value)))
-stmt_of-if s e b is = stmt_of-parts s ∙ rw (is, form_of-if e b) refl
+stmt_of-if_else s e b is = stmt_of-parts s ∙ rw (is, form_of-if_else e b) refl
 
 pub stmt_of-repeat : (s : Stmt) (e : Expr) (a : Vec Stmt Global) → s.form ≡ F.Repeat e a → stmt_of s ≡ (s.row, S.repeat (term_of e) (block_of a.items))
 stmt_of-repeat s e a is = stmt_of-parts s ∙ rw (is, form_of-repeat e a) refl

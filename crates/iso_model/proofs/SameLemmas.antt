@@ -1,5 +1,6 @@
 -- Where parts of scripts say the same.
-use Rattle.std.proofs.Common.{◌≡◌, ◌↔◌, ℕ, ◌<◌, Bool, false, IsTrue, List, [], ◌∷◌, map, length, get_or, refl, ap, ap₂, sym, ◌∙◌, arith}
+use Rattle.std.proofs.Common.{◌≡◌, ◌↔◌, ℕ, ◌<◌, ◌==◌, Bool, false, IsTrue, List, [], ◌∷◌, map, length, get_or, refl, ap, ap₂, sym, ◌∙◌, arith, Vec, vec_len}
+use Rattle.std.proofs.lemmas.Bool.Decides.{nat_tests}
 use Rattle.std.proofs.lemmas.List.{get_or-map}
 use Rattle.iso_model.specs.Syntax.{Term, chain, Act, choice, repeat, Acts}
 use Rattle.iso_model.specs.SyntaxView.{terms_of, acts_of}
@@ -63,6 +64,26 @@ choices_differ {r} {s} {t} {x} {y} {ps} {cs} {us} {vs} at_s at_t r_no apart = (
       let firsts : acts_of ps ≡ acts_of cs = cc in
       absurd (apart same_x (acts_of-inj ps cs firsts)),
 )
+
+-- what two choices of equal conditions and second bodies say is told by the first bodies
+pub ifs_same : {r : Bool} {s t : Act} {x y : Term} {ps cs : List (ℕ × Act)} {us : Acts} → s ≡ choice x (acts_of ps) us
+    → t ≡ choice y (acts_of cs) us → x ≡ y → (IsTrue r ↔ (ps ≡ cs)) → IsTrue r ↔ (s ≡ t)
+ifs_same {r} {s} {t} {x} {y} {ps} {cs} at_s at_t x_y told = (
+  λ yes_. let firsts : acts_of ps ≡ acts_of cs = ap acts_of (told.0 yes_) in cc,
+  λ e. let firsts : acts_of ps ≡ acts_of cs = cc in told.1 (acts_of-inj ps cs firsts),
+)
+
+-- whether a list is empty is told of what it is mapped to
+empty_list : {A B : Type 0} {r : Bool} (f : A → B) (xs : List A) → r ≡ (length xs == 0) → IsTrue r ↔ (map f xs ≡ [])
+empty_list f [] e = (λ yes_. refl, λ none. e)
+empty_list f (x ∷ xs) e =
+    let some : (length (x ∷ xs) == 0) ≡ false = grind (arith, nat_tests) in
+    (λ yes_. absurd cc, λ none. absurd cc)
+
+pub empty_told : {A B Z : Type 0} {r : Bool} (f : A → B) (v : Vec A Z) → r ≡ (vec_len v == 0) → IsTrue r ↔ (map f v.items ≡ [])
+empty_told f v e =
+    let all : vec_len v ≡ length v.items = omega (arith, v.ok.0) in
+    empty_list f v.items (e ∙ ap (λ n. n == 0) all)
 
 -- what two repeats of equal numbers of turns say is told by their bodies
 pub repeats_same : {r : Bool} {s t : Act} {x y : Term} {ps cs : List (ℕ × Act)} → s ≡ repeat x (acts_of ps)

@@ -62,7 +62,8 @@ form_step (Form-F.One what e) = plain (with_one what (term_of e))
 form_step (Form-F.Two what a b) = plain (with_two what (term_of a) (term_of b))
 form_step (Form-F.Assume e reason) = plain (assume (term_of e) reason)
 form_step (Form-F.Fail message) = plain (fail message)
-form_step (Form-F.If e bodies) = choice (term_of e) bodies.value.0 bodies.value.1
+form_step (Form-F.If e a) = choice (term_of e) (acts_of a.items) no_acts
+form_step (Form-F.IfElse e bodies) = choice (term_of e) bodies.value.0 bodies.value.1
 form_step (Form-F.Repeat e a) = repeat (term_of e) (acts_of a.items)
 
 abbrev pub stmt_step : Stmt-F Act (ℕ × Act) (Acts × Acts) → ℕ × Act

@@ -94,17 +94,20 @@ pub enum Form {
     /// The condition, and the reason.
     Assume(Expr, TreeText),
     Fail(TreeText),
-    If(Expr, Box<TwoBodies>),
+    /// The condition, and the body of an `if` without `else`, or with one that has no statement: so
+    /// a box stands only where two bodies do.
+    If(Expr, Vec<Stmt>),
+    IfElse(Expr, Box<TwoBodies>),
     /// The number of turns, and the body.
     Repeat(Expr, Vec<Stmt>),
 }
 
-/// The bodies of an `if`.
+/// The bodies of an `if` with `else`.
 #[derive(Drop)]
 #[cycle(statement)]
 pub struct TwoBodies {
     /// Where the condition holds.
     pub first: Vec<Stmt>,
-    /// Where it doesn't: empty without `else`.
+    /// Where it doesn't.
     pub second: Vec<Stmt>,
 }

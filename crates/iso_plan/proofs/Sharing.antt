@@ -54,10 +54,10 @@ pub expr_shared : IsSync (expr.the_field).row
 expr_shared = exprs.sync-Expr (search sendable) (search sendable) tree_text.the_sync operator.the_field_sync Box-sync comparison.the_field_sync function.the_field_sync Vec-sync
 
 pub stmt_sent : IsSend stmt.the_row
-stmt_sent = as_row_send stmt.the_field (form.send-Stmt tree_text.the_send expr_sent one.the_field_send two.the_field_send Box-send Vec-send (search sendable))
+stmt_sent = as_row_send stmt.the_field (form.send-Stmt tree_text.the_send expr_sent one.the_field_send two.the_field_send Vec-send Box-send (search sendable))
 
 pub stmt_shared : IsSync stmt.the_row
-stmt_shared = as_row_sync stmt.the_field (form.sync-Stmt tree_text.the_sync expr_shared one.the_field_sync two.the_field_sync Box-sync Vec-sync (search sendable))
+stmt_shared = as_row_sync stmt.the_field (form.sync-Stmt tree_text.the_sync expr_shared one.the_field_sync two.the_field_sync Vec-sync Box-sync (search sendable))
 
 ruleset parts = (
   as_row_send,

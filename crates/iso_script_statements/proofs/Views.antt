@@ -1,10 +1,11 @@
 -- Variants of the tree, as they are seen.
-use Rattle.std.proofs.Common.{◌≡◌, ◌∙◌, ap, ap₂, ℕ, ℤ, List, Box, Vec, Global, rules}
-use Rattle.iso_model.specs.Syntax.{literal, name, compare, call, locale, let_name, assign, assume, fail, plain, choice}
-use Rattle.iso_model.proofs.TreeLemmas.{first_body, second_body, form_of-if}
+use Rattle.std.proofs.Common.{◌≡◌, ◌∙◌, ◌==◌, true, ap, ap₂, refl, sym, ℕ, ℤ, List, Box, Vec, Global, vec_len, rules}
+use Rattle.iso_model.specs.Syntax.{literal, name, compare, call, locale, let_name, assign, assume, fail, Act, plain, choice}
+use Rattle.iso_model.proofs.SameLemmas.{empty_told}
+use Rattle.iso_model.proofs.TreeLemmas.{first_body, second_body, form_of-if, form_of-if_else}
 use Rattle.iso_model.specs.declared.tree.Comparison.{Comparison}
 use Rattle.iso_model.specs.declared.tree.Function.{Function}
-use Rattle.iso_model.specs.SyntaxView.{block_of, term_of, form_of, stmt_of, with_one, with_two}
+use Rattle.iso_model.specs.SyntaxView.{acts_of, block_of, term_of, form_of, stmt_of, with_one, with_two}
 use Rattle.iso_script_statements.specs.Statements.{body_of}
 use Rattle.iso_model.specs.declared.tree.Form.{Form}
 use Rattle.iso_model.specs.declared.tree.OneOperand.{OneOperand}
@@ -44,10 +45,14 @@ second_of-both : (a b : Vec Stmt Global) → second_body (roll-TwoBodies (record
 second_of-both a b = search (rules, F.the_lemmas)
 
 pub form_of-choice : (e : Expr) (a b : Vec Stmt Global) (both : Box TwoBodies Global) → both.value ≡ roll-TwoBodies (record { first = a; second = b })
-    → form_of (F.If e both) ≡ choice (term_of e) (body_of a) (body_of b)
+    → form_of (F.IfElse e both) ≡ choice (term_of e) (body_of a) (body_of b)
 form_of-choice e a b both is =
-    form_of-if e both
+    form_of-if_else e both
     ∙ ap₂ (λ (xs ys : List Stmt). choice (term_of e) (block_of xs) (block_of ys)) (ap first_body is ∙ first_of-both a b) (ap second_body is ∙ second_of-both a b)
+
+pub form_of-lone : (e : Expr) (a b : Vec Stmt Global) → (vec_len b == 0) ≡ true → form_of (F.If e a) ≡ choice (term_of e) (body_of a) (body_of b)
+form_of-lone e a b none =
+    form_of-if e a ∙ ap (λ (ss : List (ℕ × Act)). choice (term_of e) (body_of a) (acts_of ss)) (sym ((empty_told stmt_of b refl).0 none))
 
 pub stmt_of-parts : (row : ℕ) (f : Form) → stmt_of (roll-Stmt (record { row = row; form = f })) ≡ (row, form_of f)
 stmt_of-parts row f = search (rules, F.the_lemmas)

@@ -118,8 +118,11 @@ impl Parser<'_> {
         let wanted = self.wanted_before(Symbol::OpenBrace);
         let first = self.body(bodies, above, wanted)?;
         let second = self.otherwise(bodies, above)?;
+        if second.is_empty() {
+            return Ok(Form::If(condition, first));
+        }
         let bodies = Box::new(self.alloc, TwoBodies { first, second })?;
-        Ok(Form::If(condition, bodies))
+        Ok(Form::IfElse(condition, bodies))
     }
 
     /// The body of an `else`, or none.

@@ -79,7 +79,10 @@ impl<'a> BlockRun<'a> {
             Form::Two(what, first, second) => self.perform_two(touch, row, *what, first, second),
             Form::Assume(condition, reason) => self.assume(touch, row, condition, reason),
             Form::Fail(message) => self.fail_with(row, message),
-            Form::If(condition, bodies) => {
+            Form::If(condition, body) => {
+                self.choose(touch, row, condition, Block::of(body), Block::of(&[]))
+            }
+            Form::IfElse(condition, bodies) => {
                 let (first, second) = (Block::of(&bodies.first), Block::of(&bodies.second));
                 self.choose(touch, row, condition, first, second)
             }

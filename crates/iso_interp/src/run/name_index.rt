@@ -39,6 +39,7 @@ fn left_after_form(form: &Form, looks: u32) -> u32 {
         Form::One(_, value)
         | Form::Assume(value, _)
         | Form::If(value, _)
+        | Form::IfElse(value, _)
         | Form::Repeat(value, _) => left_after(value, looks),
         Form::Two(_, first, second) => left_after(second, left_after(first, looks)),
         Form::Fail(_) => looks,

@@ -32,10 +32,17 @@ fn same_form(a: &Form, b: &Form) -> bool
             same_two(*p, *q) && same_expr(c, d) && same_expr(e, f)
         }
         (Form::Fail(x), Form::Fail(y)) => x.as_str() == y.as_str(),
-        (Form::If(e, xs), Form::If(f, ys)) => {
+        (Form::If(e, xs), Form::If(f, ys)) => same_expr(e, f) && same_stmts(xs, ys),
+        (Form::IfElse(e, xs), Form::IfElse(f, ys)) => {
             same_expr(e, f)
                 && same_stmts(&xs.first, &ys.first)
                 && same_stmts(&xs.second, &ys.second)
+        }
+        (Form::If(e, xs), Form::IfElse(f, ys)) => {
+            same_expr(e, f) && same_stmts(xs, &ys.first) && ys.second.is_empty()
+        }
+        (Form::IfElse(e, xs), Form::If(f, ys)) => {
+            same_expr(e, f) && same_stmts(&xs.first, ys) && xs.second.is_empty()
         }
         (Form::Repeat(e, xs), Form::Repeat(f, ys)) => same_expr(e, f) && same_stmts(xs, ys),
         _ => false,

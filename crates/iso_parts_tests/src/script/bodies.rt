@@ -23,11 +23,11 @@ fn first_of(script: &Script) -> Option<&Stmt> {
     body_of(script)?.get(0)
 }
 
-/// The rows of the first statement, an `if`, and of the first statements of its two bodies.
+/// The rows of the first statement, an `if` with `else`, and of the first statements of its bodies.
 fn rows_of_if(script: &Script) -> Option<(u32, u32, u32)> {
     let statement = first_of(script)?;
     match &statement.form {
-        Form::If(_, bodies) => {
+        Form::IfElse(_, bodies) => {
             Some((
                 statement.row,
                 bodies.first.get(0)?.row,

@@ -4,7 +4,7 @@ use Rattle.iso_model.specs.Syntax as S
 use Rattle.iso_model.specs.Syntax.{Acts}
 use Rattle.iso_model.specs.SyntaxView.{term_of, block_of, with_one, with_two}
 use Rattle.iso_interp.specs.Runs.{pieces_of, run_rights, state_of}
-use Rattle.iso_interp.proofs.Forms.{begun-as, begun-plain, same-pieces, stmt_of-let, stmt_of-assign, stmt_of-one, stmt_of-two, stmt_of-assume, stmt_of-if, stmt_of-repeat}
+use Rattle.iso_interp.proofs.Forms.{begun-as, begun-plain, same-pieces, stmt_of-let, stmt_of-assign, stmt_of-one, stmt_of-two, stmt_of-assume, stmt_of-if, stmt_of-if_else, stmt_of-repeat}
 use Rattle.iso_interp.proofs.run.BlockRun.begin.Goals as goal
 
 pub returns-in-Let-clause-begun : goal.returns-in-Let-clause-begun
@@ -35,17 +35,25 @@ returns-in-Assume-clause-begun g c = begun-plain c.assume.result (run_rights c.a
 pub returns-in-If-clause-begun : goal.returns-in-If-clause-begun
 returns-in-If-clause-begun g c =
     let s = c.args.statement.now in
-    let first = ap first_body (sym c.deref.ensures) ∙ sym c.deref-in-If.ensures.value in
-    let second = ap second_body (sym c.deref-in-If-2.ensures) ∙ sym c.deref-in-If-3.ensures.value in
     let is = stmt_of-if s _ _ c.in-If.is
-    ∙ ap₂ (λ (a b : Acts). (s.row, S.choice (term_of c.in-If.condition) a b)) (ap block_of first ∙ sym c.of-first.ensures) (ap block_of second ∙ sym c.of-second.ensures) in
-    begun-as c.choose.result (run_rights c.args.self.now) s (S.choice (term_of c.in-If.condition) c.of-first.result c.of-second.result) (state_of c.args.self.now (g.T.Touch.content c.args.touch.now))
+    ∙ ap₂ (λ (a b : Acts). (s.row, S.choice (term_of c.in-If.condition) a b)) (ap block_of (sym c.deref.ensures.value) ∙ sym c.of.ensures) (sym c.of-in-If.ensures) in
+    begun-as c.choose.result (run_rights c.args.self.now) s (S.choice (term_of c.in-If.condition) c.of.result c.of-in-If.result) (state_of c.args.self.now (g.T.Touch.content c.args.touch.now))
     (state_of c.choose.new.self (g.T.Touch.content c.args.touch.now)) (pieces_of c.args.self.now) (pieces_of c.choose.new.self) is c.choose.ensures.begun
+
+pub returns-in-IfElse-clause-begun : goal.returns-in-IfElse-clause-begun
+returns-in-IfElse-clause-begun g c =
+    let s = c.args.statement.now in
+    let first = ap first_body (sym c.deref-in-IfElse.ensures) ∙ sym c.deref-in-IfElse-2.ensures.value in
+    let second = ap second_body (sym c.deref-in-IfElse-3.ensures) ∙ sym c.deref-in-IfElse-4.ensures.value in
+    let is = stmt_of-if_else s _ _ c.in-IfElse.is
+    ∙ ap₂ (λ (a b : Acts). (s.row, S.choice (term_of c.in-IfElse.condition) a b)) (ap block_of first ∙ sym c.of-first.ensures) (ap block_of second ∙ sym c.of-second.ensures) in
+    begun-as c.choose-in-IfElse.result (run_rights c.args.self.now) s (S.choice (term_of c.in-IfElse.condition) c.of-first.result c.of-second.result) (state_of c.args.self.now (g.T.Touch.content c.args.touch.now))
+    (state_of c.choose-in-IfElse.new.self (g.T.Touch.content c.args.touch.now)) (pieces_of c.args.self.now) (pieces_of c.choose-in-IfElse.new.self) is c.choose-in-IfElse.ensures.begun
 
 pub returns-in-Repeat-clause-begun : goal.returns-in-Repeat-clause-begun
 returns-in-Repeat-clause-begun g c =
     let s = c.args.statement.now in
     let is = stmt_of-repeat s _ _ c.in-Repeat.is
-    ∙ ap (λ (a : Acts). (s.row, S.repeat (term_of c.in-Repeat.count) a)) (ap block_of (sym c.deref-in-Repeat.ensures.value) ∙ sym c.of.ensures) in
-    begun-as c.repeat.result (run_rights c.args.self.now) s (S.repeat (term_of c.in-Repeat.count) c.of.result) (state_of c.args.self.now (g.T.Touch.content c.args.touch.now))
+    ∙ ap (λ (a : Acts). (s.row, S.repeat (term_of c.in-Repeat.count) a)) (ap block_of (sym c.deref-in-Repeat.ensures.value) ∙ sym c.of-in-Repeat.ensures) in
+    begun-as c.repeat.result (run_rights c.args.self.now) s (S.repeat (term_of c.in-Repeat.count) c.of-in-Repeat.result) (state_of c.args.self.now (g.T.Touch.content c.args.touch.now))
     (state_of c.repeat.new.self (g.T.Touch.content c.args.touch.now)) (pieces_of c.args.self.now) (pieces_of c.repeat.new.self) is c.repeat.ensures.begun

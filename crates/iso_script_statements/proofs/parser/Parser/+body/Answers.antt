@@ -13,7 +13,7 @@ use Rattle.iso_script_statements.proofs.Repetitions.{none_read, read_more}
 use Rattle.iso_script_statements.proofs.Shorter.{statement_shorter}
 use Rattle.iso_script_statements.proofs.Statements.{is_simple, simple_only, is_assignment, assignment_only, if_body, if_else, repeat_body, is_else, else_only, statement_some, also, goes_on, goes_only, next_statement, all_read, is_body, body_inner, not_opened}
 use Rattle.iso_script_statements.proofs.WantedLemmas.{expression_ends}
-use Rattle.iso_script_statements.proofs.Views.{form_of-assign, form_of-choice, stmt_of-parts}
+use Rattle.iso_script_statements.proofs.Views.{form_of-assign, form_of-choice, form_of-lone, stmt_of-parts}
 use Rattle.iso_script_statements.proofs.parser.Parser.+body.Goals as goal
 
 pub statements-statements-init : goal.statements-statements-init
@@ -102,6 +102,11 @@ pub choice-returns-in_err-second : goal.choice-returns-in_err-second
 choice-returns-in_err-second t c =
     let p = err_from_is_err_and c.from_residual-in_err-second.result c.from_residual-in_err-second.ensures.1 in
     λ r. rw (p.1, p.2) (λ a rest h. let k = if_else _ _ r _ _ a _ _ _ rest c.in_ok-condition.ensures c.in_ok-first.ensures h in c.in_err-second.ensures k.0 rest k.1)
+
+pub choice-returns-then-is_empty : goal.choice-returns-then-is_empty
+choice-returns-then-is_empty t c =
+    let none = sym c.is_empty.ensures ∙ c.if-is_empty.true in
+    λ r. rw (form_of-lone c.in_ok-condition.condition c.in_ok-first.first c.in_ok-second.second none) (an_if c.in_ok-condition.ensures c.in_ok-first.ensures c.in_ok-second.ensures)
 
 pub choice-returns : goal.choice-returns
 choice-returns t c = λ r. rw (form_of-choice c.in_ok-condition.condition _ _ c.in_ok-bodies.bodies c.in_ok-bodies.ensures.ok) (an_if c.in_ok-condition.ensures c.in_ok-first.ensures c.in_ok-second.ensures)
