@@ -36,7 +36,7 @@ module _ (a : NamedLft) (T : RattleType) (ground : Ghosts T.Denot) (sent : IsSen
   pub desk_sent : IsSend (desk.the_row a T ground)
   desk_sent = search (
     declared_send (desk_inside.the_type a T ground)
-        (search parts, (search (option.the_send, parts) depth 12, (search parts, (search parts, (search parts, (search parts, tt)))))),
+        (search parts, (search (option.the_send, parts) depth 12, (search parts, (search parts, (search parts, (search parts, (search parts, tt))))))),
     sendable,
   )
 

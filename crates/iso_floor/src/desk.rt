@@ -52,6 +52,8 @@ pub(crate) struct Desk<'a, G: Ground> {
     book: Book<'a>,
     /// By worker, what it has of the deques, until it has a seat.
     pub(crate) places: Vec<Option<PostSeat>>,
+    /// The tray whose starting values those of all seats share.
+    pub(crate) first: Tray<'a>,
     scheduler: Scheduler,
     hints: Hints,
     watching: u32,
@@ -63,6 +65,7 @@ impl<'a, G: Ground> Model for Desk<'a, G> {
     ghost use Rattle.std.specs.Coded.{codes};
     ghost use Rattle.iso_book.specs.Books.{book_code};
     ghost use Rattle.iso_floor.specs.Desks.{DeskView, IsDesk};
+    ghost use Rattle.iso_floor.specs.Grounds.{IsTrayOf};
 
     ghost Value = { DeskView };
 
@@ -73,6 +76,7 @@ impl<'a, G: Ground> Model for Desk<'a, G> {
     ghost invariant = { λ d. record {
       desk : IsDesk G.plan G.start G.workers d.book d.scheduler;
       seats : length d.places.items ≡ G.workers;
+      first : IsTrayOf G.plan G.start d.first;
     } };
 }
 
@@ -96,6 +100,7 @@ impl<'a, G: Ground> Desk<'a, G> {
         Ok(Desk {
             book: Book::new(alloc, plan, world, workers)?,
             places: places_of(alloc, seats, workers)?,
+            first: Tray::new(alloc, plan, world)?,
             scheduler,
             hints: Hints::new(alloc, plan)?,
             watching: 0,

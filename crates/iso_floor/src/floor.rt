@@ -60,7 +60,7 @@ impl<'a, G: Ground> Model for Floor<'a, G> {
 
 impl<'a, G: Ground> Floor<'a, G> {
     /// A floor on which nobody sits yet, with a book that has taken no event. It takes all memory
-    /// that book and comparison need.
+    /// that book and comparison need, and that of the starting values, which all seats share.
     pub fn new(
         alloc: Global,
         plan: &'a Plan,
@@ -101,7 +101,7 @@ impl<'a, G: Ground> Floor<'a, G> {
         }
         let desk = &mut *desk;
         let place = &mut desk.places[worker as usize];
-        Seat::new(alloc, self.plan, self.world, worker, place)
+        Seat::new(alloc, &desk.first, worker, place)
     }
 
     /// A seat's worker enters a node, as `Book::enter` does with the seat's tray. A refusal and

@@ -19,9 +19,7 @@ use iso_locks::tray::{Savepoint, Tray};
 use iso_model::resource::{Ask, Change};
 use iso_model::resource_key::ResourceKey;
 use iso_model::touch::Touch;
-use iso_plan::plan::Plan;
 use iso_posts::posts::PostSeat;
-use iso_settings::world::World;
 use iso_standing::refused::{CoreFault, Refused};
 use std::alloc::{AllocError, Global};
 use std::marker::{Model, PhantomData};
@@ -63,16 +61,14 @@ impl<'a, G: Ground> Model for Seat<'a, G> {
 impl<'a, G: Ground> Seat<'a, G> {
     /// The seat of a worker, to whose tray nothing is lent, if the worker's place has its deques
     /// still: it takes them, and all memory that the worker's Leaves need. Else the place is as it
-    /// was.
+    /// was. Its tray shares the starting values of `first`.
     pub(crate) fn new(
         alloc: Global,
-        plan: &'a Plan,
-        world: &'a World,
+        first: &Tray<'a>,
         worker: u32,
         place: &mut Option<PostSeat>,
     ) -> Result<Seat<'a, G>, SeatFault>
-        requires plan { plan.now ≡ G.plan }
-        requires start { world.now ≡ G.start }
+        requires { IsTrayOf G.plan G.start first.now }
         ensures seat { IfOk result (λ s. s ≡ new_seat G.plan G.start worker) }
         ensures taken { OnOk result (place.new ≡ None) }
         ensures fault { IfErr result (IsPlaceFault place.old) }
@@ -81,8 +77,8 @@ impl<'a, G: Ground> Seat<'a, G> {
         if place.is_none() {
             return Err(SeatFault::Taken);
         }
-        let leaves = plan.len() as usize * 2;
-        let tray = Tray::new(alloc, plan, world)?;
+        let leaves = first.plan().len() as usize * 2;
+        let tray = first.another(alloc)?;
         let receipts = Vec::with_capacity(alloc, leaves)?;
         match place.take() {
             Some(posts) => Ok(Seat {

@@ -27,7 +27,7 @@ use std::env::{self, Env};
 use std::io;
 
 /// The calls that the program makes, by their names.
-static NAMES: [&str; 53] = [
+static NAMES: [&str; 54] = [
     "read_settings",
     "read_script",
     "build",
@@ -45,6 +45,7 @@ static NAMES: [&str; 53] = [
     "Held::mark",
     "HeldNodes::new",
     "Tray::new",
+    "Tray::another",
     "Tray::mark",
     "Vault::new",
     "run",

@@ -23,7 +23,18 @@ pub(crate) fn lend<H: Host>(
     calls.begin("Tray::new");
     let made = Tray::new(calls.alloc(), plan, world);
     calls.end("Tray::new");
-    with_tray(calls, plan, world, &mut made?)
+    let mut tray = made?;
+    make_another(calls, &tray)?;
+    with_tray(calls, plan, world, &mut tray)
+}
+
+/// Makes another tray over the starting values of one.
+fn make_another<H: Host>(calls: &Calls<'_, H>, tray: &Tray<'_>) -> Result<(), Answer> {
+    calls.begin("Tray::another");
+    let made = tray.another(calls.alloc());
+    calls.end("Tray::another");
+    made?;
+    Ok(())
 }
 
 /// Counts the first class among the held nodes of a plan.

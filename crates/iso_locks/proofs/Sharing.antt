@@ -50,4 +50,8 @@ vault_sent a = search (declared_send (vault_inside.the_type a) (search held, (se
 
 pub tray_sent : (a : NamedLft) → IsSend (tray.the_row a)
 tray_sent a =
-    search (declared_send (tray_inside.the_type a) (search held, (search held, (search held, (search (lent_sent, held), (search held, (search held, (search held, (search held, tt)))))))), sendable)
+    search (
+      declared_send (tray_inside.the_type a)
+          (search held, (search held, (search held, (search (lent_sent, held), (search held, (search held, (search held, (search (option_sent, held), (search held, tt))))))))),
+      sendable,
+    )

@@ -3,17 +3,18 @@
 -- owners of values: Which lent node owns a value of a tray (`IsOwned`, `AreOwned`), and which nodes
 -- no tray holds together (`clash`).
 -- Also in: `Clashes`.
-use Rattle.std.specs.Prelude.{◌≡◌, ◌≢◌, ◌≤◌, ℕ, List, [], length, map, Bool, true, false, is_some}
+use Rattle.std.specs.Prelude.{◌≡◌, ◌≢◌, ◌≤◌, ℕ, List, [], length, map, reverse, Option, Some, None, Bool, true, false, is_some}
 use Rattle.iso_locks.specs.Clashes.{clash}
 use Rattle.iso_locks.specs.Moves.{is_written}
 use Rattle.iso_locks.specs.Slots.{Slots, slot}
 use Rattle.iso_locks.specs.Trays.{TrayView, is_lent, start_at}
 use Rattle.iso_locks.specs.declared.starting.Starting.{Starting}
-use Rattle.iso_lifecycle.specs.Subjects.{Subject}
+use Rattle.iso_lifecycle.specs.Subjects.{Subject, subject}
 use Rattle.iso_plan.specs.HeldNodes.{HeldView}
 use Rattle.iso_plan.specs.KeyTable.{keys}
 use Rattle.iso_plan.specs.Locks.{locks}
 use Rattle.iso_plan.specs.NodeChains.{depth}
+use Rattle.iso_plan.specs.Paths.{path}
 use Rattle.iso_plan.specs.Planned.{Planned}
 use Rattle.iso_plan.specs.RowView.{tree_of}
 use Rattle.iso_plan.specs.Tree.{Row}
@@ -48,13 +49,21 @@ pub record HasRoom (most room spare_room : ℕ) (spare : List Subject) : Type 0 
   pub gathered : most ≤ spare_room
   pub empty : spare ≡ []
 
+-- the frames that a tray has, where the class is known for which it was handed them last: those of
+-- this class and of its enclosing classes, outermost first
+abbrev pub AreHanded : Planned → Start → Option ℕ → List Subject → Type 0
+AreHanded plan world None frames = Unit {0}
+AreHanded plan world (Some class) frames =
+    frames ≡ map (subject plan world) (reverse (path (tree_of plan) class))
+
 -- what holds of the lists that a tray keeps, with room for the frames of the deepest class chain
 pub record IsTray (plan : Planned) (world : Start) (flat : Bool) (lent : HeldView) (values : Slots)
-    (starts : List Starting)
-    (room spare_room : ℕ) (spare : List Subject) : Type 0 where
+    (starts : List Starting) (room spare_room : ℕ) (spare : List Subject) (handed : Option ℕ)
+    (frames : List Subject) : Type 0 where
   pub lent_of : lent.plan ≡ plan
   pub lent_fits : length lent.held ≡ length plan.rows
   pub values_fit : length values ≡ length (keys (tree_of plan))
   pub starts_are : starts ≡ map (start_at world) (keys (tree_of plan))
   pub has_room : HasRoom (depth (tree_of plan)) room spare_room spare
+  pub are_handed : AreHanded plan world handed frames
   pub are_owned : AreOwned (tree_of plan) flat lent.held values

@@ -1,5 +1,5 @@
 //! One worker's values.
-ghost use Rattle.std.specs.Prelude.{◌≡◌, ◌<◌, ◌++◌, ◌∷◌, [], ℕ, None, Some, IfOk, List, OnErr, OnOk, cond, false, is_some, length, not, replicate, true};
+ghost use Rattle.std.specs.Prelude.{◌≡◌, ◌<◌, ◌++◌, ◌∷◌, [], ℕ, None, Some, IfOk, List, OnErr, OnOk, cond, false, is_some, length, map, not, replicate, true};
 ghost use Rattle.iso_store.specs.Histories.{History};
 ghost use Rattle.iso_locks.specs.Clashes.{clash};
 ghost use Rattle.iso_locks.specs.Owners.{AreOwned, CanHold};
@@ -7,7 +7,7 @@ ghost use Rattle.iso_locks.specs.Slots.{HasLater, has_changed, has_unchanged, sl
 ghost use Rattle.iso_locks.specs.Flats.{IsFlat, flat};
 ghost use Rattle.iso_lifecycle.specs.ResultViews.{AreOpened};
 ghost use Rattle.iso_lifecycle.specs.Subjects.{started};
-ghost use Rattle.iso_locks.specs.Trays.{CanUndo, empty_tray, frames_on, is_lent, marked, restored, undone};
+ghost use Rattle.iso_locks.specs.Trays.{CanUndo, empty_tray, frames_on, is_lent, marked, restored, start_at, undone};
 ghost use Rattle.iso_locks.specs.Moves.{AreAllWritten, is_written, moved_away, moved_here};
 ghost use Rattle.iso_locks.specs.Vaults.{giving_back, receiving};
 ghost use Rattle.iso_plan.specs.HeldNodes.{any_held};
@@ -54,6 +54,8 @@ pub struct Tray<'a> {
     /// The keys with their starting values, by key number.
     starts: Starts,
     frames: Vec<Frame>,
+    /// The class whose frames it has, where they are known to be those of its plan and world.
+    handed: Option<u32>,
     /// Where frames are gathered before they are handed.
     spare: Vec<Frame>,
 }
@@ -79,7 +81,7 @@ impl<'a> Model for Tray<'a> {
     } };
 
     ghost invariant = { λ t. IsTray t.plan.now t.world.now t.flat t.lent t.values t.starts
-        (vec_capacity t.frames) (vec_capacity t.spare) t.spare.items };
+        (vec_capacity t.frames) (vec_capacity t.spare) t.spare.items t.handed t.frames.items };
 }
 
 /// What a node's rights let it change, as it stood at one moment, to which a tray can go back.
@@ -114,6 +116,28 @@ impl<'a> Tray<'a> {
     pub fn new(alloc: Global, plan: &'a Plan, world: &'a World) -> Result<Tray<'a>, AllocError>
         ensures { IfOk result (λ t. t ≡ empty_tray plan.now world.now) }
     {
+        let starts = starts_of(alloc, plan, world)?;
+        Tray::over(alloc, plan, world, starts)
+    }
+
+    /// Another tray for its plan and world, to which nothing is lent or handed. The two share the
+    /// starting values, so that it takes the memory of `new` without these.
+    pub fn another(&self, alloc: Global) -> Result<Tray<'a>, AllocError>
+        ensures { IfOk result (λ t. t ≡ empty_tray self.now.plan self.now.world) }
+    {
+        Tray::over(alloc, self.plan, self.world, self.starts.share()?)
+    }
+
+    /// A tray over the starting values of a plan's keys.
+    fn over(
+        alloc: Global,
+        plan: &'a Plan,
+        world: &'a World,
+        starts: Starts,
+    ) -> Result<Tray<'a>, AllocError>
+        requires { starts ≡ map (start_at world.now) (keys (tree_of plan.now)) }
+        ensures { IfOk result (λ t. t ≡ empty_tray plan.now world.now) }
+    {
         let count = plan.key_count() as usize;
         let depth = plan.depth();
         Ok(Tray {
@@ -122,8 +146,9 @@ impl<'a> Tray<'a> {
             flat: false,
             lent: LentNodes::new(alloc, plan)?,
             values: Slots::empty(alloc, count)?,
-            starts: starts_of(alloc, plan, world)?,
+            starts,
             frames: Vec::with_capacity(alloc, depth)?,
+            handed: None,
             spare: Vec::with_capacity(alloc, depth)?,
         })
     }
@@ -210,6 +235,7 @@ impl<'a> Tray<'a> {
         requires { length self.old.frames < depth (tree_of self.old.plan) }
         ensures { self.new ≡ record self.old { frames = self.old.frames ++ frame ∷ [] } }
     {
+        self.handed = None;
         self.frames.push_reserved(frame);
     }
 
@@ -227,15 +253,40 @@ impl<'a> Tray<'a> {
     {
         laws::nodes_are_a_tree(self.plan);
         results.share_frames(class, &mut self.spare)?;
+        self.handed = None;
         mem::swap(&mut self.frames, &mut self.spare);
         self.spare.clear();
         Ok(())
+    }
+
+    /// As `hand_path`, for results of its own starting values. Where it was handed the frames of
+    /// this class last, it has them still, and nothing is shared: all tests of a class begin with
+    /// the same.
+    pub fn hand_own_path(&mut self, results: &Results<'_>, class: u32) -> Result<(), AllocError>
+        requires plan { results.now.plan ≡ self.old.plan }
+        requires start { results.now.start ≡ self.old.world }
+        requires node { class < length self.old.plan.rows }
+        requires class { is_test (row_at (tree_of self.old.plan) class).kind ≡ false }
+        requires opened { AreOpened results.now (path (tree_of self.old.plan) class) }
+        ensures ok { OnOk result (self.new
+            ≡ record self.old { frames = frames_on results.now class }) }
+        ensures err { OnErr result (self.new ≡ self.old) }
+    {
+        match self.handed {
+            Some(handed) if handed == class => Ok(()),
+            _ => {
+                self.hand_path(results, class)?;
+                self.handed = Some(class);
+                Ok(())
+            }
+        }
     }
 
     /// For a runner of one's own: lets go of all frames that were handed to it. Takes no memory.
     pub fn clear_frames(&mut self)
         ensures { self.new ≡ record self.old { frames = [] } }
     {
+        self.handed = None;
         self.frames.clear();
     }
 

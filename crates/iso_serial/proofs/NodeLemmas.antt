@@ -25,10 +25,10 @@ use Rattle.iso_serial.proofs.LeaveLemmas.{at-start, back-holds, home-further, ho
 use Rattle.iso_serial.proofs.OpeningLemmas.{opened-by, opened-well}
 use Rattle.iso_serial.proofs.ResultLemmas.{all-done, open-above, root-or-not}
 use Rattle.iso_serial.proofs.StepLemmas.{inside-tree, parent-at, tree-at}
-use Rattle.iso_serial.proofs.TrayLemmas.{frames-kept, lent-less, lent-more, lent-stands, some-or-none}
+use Rattle.iso_serial.proofs.TrayLemmas.{lent-less, lent-more, lent-stands, some-or-none}
 use Rattle.iso_serial.proofs.VaultLemmas.{can-lend, can-take-back, free, same-vault, vault-back, vault-lent}
 use Rattle.iso_serial.specs.OpenedTrays.{AreLentAlong, StandsAsOpened}
-use Rattle.iso_serial.specs.Walks.{AreDone, AreResultsAlong, AtEntry, AtExit, BetweenNodes, GoesFurther, HasFrames, IsEntered, IsLentAlong}
+use Rattle.iso_serial.specs.Walks.{AreDone, AreResultsAlong, AtEntry, AtExit, BetweenNodes, GoesFurther, IsEntered, IsLentAlong}
 use Rattle.iso_serial.specs.declared.run.Walk.{Walk}
 
 pub on-one : {A E : Type 0} {P Q : Type 0} (r : Result A E) → OnOk r P → (P → Q) → OnOk r Q
@@ -99,7 +99,6 @@ module _ (plan : Planned) (world : Start) where
       tray = lent-stands plan world s.entered.tree old.tray u n pos within s.tray l;
       results = s.results;
       waits = w;
-      frames = frames-kept old.handed old.tray u old.results l.frames s.frames;
     }
 
     -- what a lent node's bodies and all that stands in it leave; its mark is undone, and it is taken back
@@ -136,8 +135,6 @@ module _ (plan : Planned) (world : Start) where
         tray = subst (λ (z : TrayView). StandsAsOpened plan world (parent tr n) (parent tr n) z) (sym (tray-is w y e f))
             (home-stands plan world s.entered.tree u end.tray n pos within entered on at.tray);
         results = at.results;
-        frames = subst (λ (z : TrayView). HasFrames end.handed z end.results) (sym (tray-is w y e f))
-            (frames-kept end.handed end.tray (giving_back n (undone (marked u n) end.tray)) end.results refl at.frames);
       }
 
       pub left-further : (x : VaultView) (w y : TrayView) → w ≡ undone mark end.tray → y ≡ giving_back n w → GoesFurther old (record end { vault = x; tray = y })
@@ -202,8 +199,8 @@ module _ (plan : Planned) (world : Start) where
   }
 
   -- at the beginning nothing is lent, and nothing has a result
-  pub first-stands : (s : Walk) → IsTree tr → s.vault ≡ whole_vault plan world → s.tray ≡ empty_tray plan world → s.results ≡ no_results plan world → s.handed ≡ None → BetweenNodes plan world 0 s
-  first-stands s t ve te re he =
+  pub first-stands : (s : Walk) → IsTree tr → s.vault ≡ whole_vault plan world → s.tray ≡ empty_tray plan world → s.results ≡ no_results plan world → BetweenNodes plan world 0 s
+  first-stands s t ve te re =
       let rooted = t.rooted in
       record {
         entered = record {
@@ -233,7 +230,6 @@ module _ (plan : Planned) (world : Start) where
           others = λ m op a. let wrong : false ≡ true = sym (none-lent (length plan.rows) m) ∙ op in absurd (cc);
           closed = λ m mp mw e. let wrong : false ≡ true = sym (none-lent (length plan.rows) (parent tr m)) ∙ e in absurd (cc);
         });
-        frames = subst (λ (h : Option ℕ). HasFrames h s.tray s.results) (sym he) tt;
       }
 
   -- between two nodes of the root every value is home, and the tray has none and nothing is lent to it

@@ -17,16 +17,12 @@ use Rattle.iso_serial.proofs.ResultLemmas.{frames-there, neither, open-above, or
 use Rattle.iso_serial.proofs.ReadyLemmas.{closing-ready, opening-ready, test-ready}
 use Rattle.iso_serial.proofs.TrayLemmas.{closed-apart, opened-stands, tested-apart}
 use Rattle.iso_serial.specs.OpenedTrays.{AreLentAlong, IsTrayAfter}
-use Rattle.iso_serial.specs.Walks.{AreDone, AreResultsAlong, AtEntry, AtExit, BetweenNodes, CanPerform, GoesFurther, HasFrames, IsLentAlong}
+use Rattle.iso_serial.specs.Walks.{AreDone, AreResultsAlong, AtEntry, AtExit, BetweenNodes, CanPerform, GoesFurther, IsLentAlong}
 use Rattle.iso_serial.specs.declared.run.Walk.{Walk}
 
 pub on-both : {A E : Type 0} {P Q R : Type 0} (r : Result A E) → OnOk r P → OnOk r Q → (P → Q → R) → OnOk r R
 on-both (Ok x) p q f = f p q
 on-both (Err e) p q f = tt
-
-pub on-three : {A E : Type 0} {P Q R S : Type 0} (r : Result A E) → OnOk r P → OnOk r Q → OnOk r R → (P → Q → R → S) → OnOk r S
-on-three (Ok x) p q s f = f p q s
-on-three (Err e) p q s f = tt
 
 -- which bodies a test and a class have
 pub test-fits : (kind : T.Kind) → is_test kind ≡ true → is_kind_of Test kind ≡ true
@@ -94,16 +90,17 @@ module _ (plan : Planned) (world : Start) where
   pub test-can : (n : ℕ) (s : Walk) → AtEntry plan world n s → is_test (row_at tr n).kind ≡ true → CanPerform plan world Test n s
   test-can n s at e = record {
     tray = at.tray.holds.plan_is;
+    start = at.tray.holds.world_is;
     opened = opened-at (parent tr n) s.results at.tree at.results;
     begins = record { inner = at.positive; within = at.within; fits = test-fits (row_at tr n).kind e; frames = frames-at (parent tr n) s.results at.results; well = at.well };
     ready = test-ready plan world at.tree n s.tray at.positive (inside-tree n at.within) (own-lent n s.tray.lent at.tree at.positive at.lent) e at.tray;
     put = can-put-entered Test n s.results at.tree at.within at.results at.waits (ap not (neither (is_ended s.results n) (is_barred s.results n) at.waits).0);
-    frames = at.frames;
   }
 
   pub opening-can : (n : ℕ) (s : Walk) → AtEntry plan world n s → is_test (row_at tr n).kind ≡ false → CanPerform plan world BeforeAll n s
   opening-can n s at e = record {
     tray = at.tray.holds.plan_is;
+    start = at.tray.holds.world_is;
     opened = opened-at (parent tr n) s.results at.tree at.results;
     begins = record {
       inner = at.positive;
@@ -117,7 +114,6 @@ module _ (plan : Planned) (world : Start) where
         let u = at.results in
         let closed = unopened plan world s.results (tree-at s.results u.plan_is at.tree) (parent tr n) n (parent-at s.results n u.plan_is) at.positive u at.waits in
         can-put-entered BeforeAll n s.results at.tree at.within u at.waits (ap not closed);
-    frames = at.frames;
   }
 
   pub closing-can : (n : ℕ) (s : Walk) → BetweenNodes plan world n s → 0 < n → is_test (row_at tr n).kind ≡ false → CanPerform plan world AfterAll n s
@@ -126,6 +122,7 @@ module _ (plan : Planned) (world : Start) where
       let within = at.entered.within in
       record {
         tray = at.tray.holds.plan_is;
+        start = at.tray.holds.world_is;
         opened = opened-at n s.results t at.results;
         begins = record {
           inner = pos;
@@ -136,7 +133,6 @@ module _ (plan : Planned) (world : Start) where
         };
         ready = closing-ready plan world t n s.tray pos (inside-tree n within) (own-lent n s.tray.lent t pos at.lent) at.tray;
         put = can-put-closed n s.results t pos within at.results;
-        frames = at.frames;
       }
 
   ended-grows : (n : ℕ) (v w : ResultsView) → w ≡ record v { ended = set v.ended n true } → (m : ℕ) → has_result v m ≡ true → has_result w m ≡ true
@@ -152,8 +148,8 @@ module _ (plan : Planned) (world : Start) where
       ap (λ (x : ResultsView). has_result x n) e ∙ or-first (is_ended over n) (is_barred over n) (set-there v.ended n within)
 
   pub test-end : (n : ℕ) (old new : Walk) → AtEntry plan world n old → is_test (row_at tr n).kind ≡ true → new.vault ≡ old.vault
-      → new.results ≡ with_done_of Test n old.results → IsTrayAfter plan world Test n old.tray new.tray → HasFrames new.handed new.tray new.results → AtExit plan world n new
-  test-end n old new s test ve re d fs =
+      → new.results ≡ with_done_of Test n old.results → IsTrayAfter plan world Test n old.tray new.tray → AtExit plan world n new
+  test-end n old new s test ve re d =
       let t = s.tree in
       let v = old.results in
       let u = s.results in
@@ -167,12 +163,11 @@ module _ (plan : Planned) (world : Start) where
             (put-test plan world v (tree-at v u.plan_is t) (parent tr n) n (parent-at v n u.plan_is) s.positive within
             (ap (λ (pl : Planned). is_test (row_at (tree_of pl) n).kind) u.plan_is ∙ test) u);
         done = has-ended n v new.results re (omega arith);
-        frames = fs;
       }
 
   pub opened-end : (n : ℕ) (old new : Walk) → AtEntry plan world n old → is_test (row_at tr n).kind ≡ false → new.vault ≡ old.vault
-      → new.results ≡ with_done_of BeforeAll n old.results → IsTrayAfter plan world BeforeAll n old.tray new.tray → HasFrames new.handed new.tray new.results → BetweenNodes plan world n new
-  opened-end n old new s class ve re d fs =
+      → new.results ≡ with_done_of BeforeAll n old.results → IsTrayAfter plan world BeforeAll n old.tray new.tray → BetweenNodes plan world n new
+  opened-end n old new s class ve re d =
       let t = s.tree in
       let v = old.results in
       let u = s.results in
@@ -183,7 +178,6 @@ module _ (plan : Planned) (world : Start) where
         tray = opened-stands plan world t old.tray new.tray n (opened-by plan world n t s.positive (inside-tree n s.within) class s.well) s.tray d;
         results = subst (λ (x : ResultsView). AreResultsAlong plan world n x) (sym re)
             (put-opened plan world v (tree-at v u.plan_is t) (parent tr n) n (parent-at v n u.plan_is) s.positive (within-at v n u.plan_is s.within) u s.waits);
-        frames = fs;
       }
 
   pub opened-further : (n : ℕ) (old new : Walk) → new.results ≡ with_done_of BeforeAll n old.results → IsTrayAfter plan world BeforeAll n old.tray new.tray → GoesFurther old new
@@ -195,8 +189,8 @@ module _ (plan : Planned) (world : Start) where
       }
 
   pub closed-end : (n : ℕ) (old new : Walk) → BetweenNodes plan world n old → 0 < n → is_test (row_at tr n).kind ≡ false → AreDone plan n old.results → new.vault ≡ old.vault
-      → new.results ≡ with_done_of AfterAll n old.results → IsTrayAfter plan world AfterAll n old.tray new.tray → HasFrames new.handed new.tray new.results → AtExit plan world n new
-  closed-end n old new s pos class all ve re d fs =
+      → new.results ≡ with_done_of AfterAll n old.results → IsTrayAfter plan world AfterAll n old.tray new.tray → AtExit plan world n new
+  closed-end n old new s pos class all ve re d =
       let e = s.entered in
       let t = e.tree in
       let v = old.results in
@@ -211,5 +205,4 @@ module _ (plan : Planned) (world : Start) where
         results = subst (λ (x : ResultsView). AreResultsAlong plan world (parent tr n) x) (sym re)
             (put-closed plan world v (tree-at v u.plan_is t) (parent tr n) n (parent-at v n u.plan_is) pos within u inside);
         done = has-ended n v new.results re (omega arith);
-        frames = fs;
       }

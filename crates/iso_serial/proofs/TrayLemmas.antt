@@ -4,14 +4,13 @@ use Rattle.std.proofs.Common.{◌≡◌, ◌≢◌, ℕ, ◌<◌, List, length, 
 use Rattle.std.proofs.lemmas.Bool.{cases_eq}
 use Rattle.std.proofs.lemmas.List.{get_or-set_other, get_or-set_same, length-set}
 use Rattle.std.specs.Option.{option_or}
-use Rattle.iso_lifecycle.specs.ResultViews.{ResultsView, with_done_of}
 use Rattle.iso_lifecycle.specs.Subjects.{Subject, opening_of, rights_of_subject, subject}
 use Rattle.iso_lifecycle.specs.declared.kind.BodyKind.{BodyKind}
 use Rattle.iso_lifecycle.specs.declared.kind.BodyKind.TheVariants.{BeforeAll, Test, AfterAll}
 use Rattle.iso_locks.proofs.NumberLemmas.{number-spells, number-within}
 use Rattle.iso_locks.specs.Moves.{is_written}
 use Rattle.iso_locks.specs.Slots.{slot}
-use Rattle.iso_locks.specs.Trays.{TrayView, content, frames_on, has_at, has_value, holds_read, is_lent, is_open, is_read, key_at, number_of, reads, resources, seen, seen_at}
+use Rattle.iso_locks.specs.Trays.{TrayView, content, has_at, has_value, holds_read, is_lent, is_open, is_read, key_at, number_of, reads, resources, seen, seen_at}
 use Rattle.iso_locks.specs.Vaults.{IsLentTo, value_in}
 use Rattle.iso_model.specs.ChainAgreement.{EqualAt}
 use Rattle.iso_model.specs.Resources.{Resources}
@@ -34,7 +33,6 @@ use Rattle.iso_store.specs.Histories.{History}
 use Rattle.iso_locks.proofs.KeyLemmas.{any-has, has-number, or-true, readable-of, written-conflict, written-is, written-within}
 use Rattle.iso_serial.proofs.OpeningLemmas.{IsOpened, opened-apart, opened-whole, opening-kind, opening-start}
 use Rattle.iso_serial.proofs.ResultLemmas.{above-parent, not-above, root-or-not, true-or-false}
-use Rattle.iso_serial.specs.Walks.{HasFrames}
 use Rattle.iso_serial.specs.OpenedTrays.{AreLentAlong, HoldsAlong, IsAsOpened, IsTrayAfter, IsWrittenOn, StandsApart, StandsAsOpened, held}
 
 pub record IsHeld (o : Option History) : Type 0 where
@@ -91,17 +89,6 @@ frames-apart plan world kind n old new fs d = record {
   onward = record { fits = d.onward.fits; only = d.onward.only; later = d.onward.later };
   after = d.after;
 }
-
--- a tray with the same frames has those of the class that is noted too
-pub frames-kept : (class : Option ℕ) (t u : TrayView) (v : ResultsView) → u.frames ≡ t.frames → HasFrames class t v → HasFrames class u v
-frames-kept None t u v e h = tt
-frames-kept (Some n) t u v e h = e ∙ h
-
--- what is put changes no frames
-pub frames-put : (k : BodyKind) (n class : ℕ) (v : ResultsView) → frames_on (with_done_of k n v) class ≡ frames_on v class
-frames-put BeforeAll n class v = refl
-frames-put Test n class v = refl
-frames-put AfterAll n class v = refl
 
 module _ (plan : Planned) (world : Start) (t : IsTree (tree_of plan)) where
   abbrev tr : List Row

@@ -6,13 +6,13 @@
 -- (`IsLentAlong`, `AreAwayAlong`), and all stands as the opening has left it. That values were only
 -- changed further and results stay (`GoesFurther`). When a node was lent (`AtEntry`) and when it
 -- has its result (`AtExit`), which no public clause cites.
-use Rattle.std.specs.Prelude.{◌≡◌, ℕ, ◌<◌, List, Bool, true, false, length, Option, Some, None, slice_index_or}
+use Rattle.std.specs.Prelude.{◌≡◌, ℕ, ◌<◌, List, Bool, true, false, length, slice_index_or}
 use Rattle.iso_lifecycle.specs.ResultViews.{AreOpen, AreOpened, CanPut, ResultsView, has_result, is_ended, is_opened}
 use Rattle.iso_lifecycle.specs.Subjects.{opening_of, subject}
 use Rattle.iso_lifecycle.specs.WholeBodies.{CanBegin, IsReadyFor}
 use Rattle.iso_lifecycle.specs.declared.kind.BodyKind.{BodyKind}
 use Rattle.iso_lifecycle.specs.declared.kind.BodyKind.TheVariants.{BeforeAll, Test, AfterAll}
-use Rattle.iso_locks.specs.Trays.{GoesOn, TrayView, content, frames_on, has_value}
+use Rattle.iso_locks.specs.Trays.{GoesOn, content, frames_on, has_value}
 use Rattle.iso_locks.specs.Vaults.{VaultView, is_home}
 use Rattle.iso_plan.specs.KeyTable.{keys}
 use Rattle.iso_plan.specs.Paths.{IsTree, children, is_under, parent, path}
@@ -60,11 +60,6 @@ pub record IsEntered (plan : Planned) (world : Start) (p : ℕ) : Type 0 where
   pub within : p < length plan.rows
   pub well : (opening_of (subject plan world (parent (tree_of plan) p))).well ≡ true
 
--- a tray has the frames of the class that is noted, if one is, and of its enclosing classes
-abbrev pub HasFrames : Option ℕ → TrayView → ResultsView → Type 0
-HasFrames None t v = Unit {0}
-HasFrames (Some class) t v = t.frames ≡ frames_on v class
-
 -- between two children of p: the nodes on p's path are lent, and all stands as p's
 -- opening has left it
 pub record BetweenNodes (plan : Planned) (world : Start) (p : ℕ) (w : Walk) : Type 0 where
@@ -73,7 +68,6 @@ pub record BetweenNodes (plan : Planned) (world : Start) (p : ℕ) (w : Walk) : 
   pub lent : AreLentAlong plan p w.tray.lent
   pub tray : StandsAsOpened plan world p p w.tray
   pub results : AreResultsAlong plan world p w.results
-  pub frames : HasFrames w.handed w.tray w.results
 
 -- n was lent, and has no result yet
 pub record AtEntry (plan : Planned) (world : Start) (n : ℕ) (w : Walk) : Type 0 where
@@ -86,7 +80,6 @@ pub record AtEntry (plan : Planned) (world : Start) (n : ℕ) (w : Walk) : Type 
   pub tray : StandsAsOpened plan world n (parent (tree_of plan) n) w.tray
   pub results : AreResultsAlong plan world (parent (tree_of plan) n) w.results
   pub waits : has_result w.results n ≡ false
-  pub frames : HasFrames w.handed w.tray w.results
 
 -- n is lent still, and has its result
 pub record AtExit (plan : Planned) (world : Start) (n : ℕ) (w : Walk) : Type 0 where
@@ -95,7 +88,6 @@ pub record AtExit (plan : Planned) (world : Start) (n : ℕ) (w : Walk) : Type 0
   pub tray : StandsApart plan world n w.tray
   pub results : AreResultsAlong plan world (parent (tree_of plan) n) w.results
   pub done : has_result w.results n ≡ true
-  pub frames : HasFrames w.handed w.tray w.results
 
 -- from one state of a run to a later one: values in the tray were only changed further, and each
 -- result stays
@@ -115,12 +107,12 @@ innermost tree AfterAll n = n
 pub record CanPerform (plan : Planned) (world : Start) (kind : BodyKind) (n : ℕ)
     (w : Walk) : Type 0 where
   pub tray : w.tray.plan ≡ plan
+  pub start : w.tray.world ≡ world
   pub opened : AreOpened w.results (path (tree_of plan) (innermost (tree_of plan) kind n))
   pub begins : CanBegin (subject plan world n) kind
       (frames_on w.results (innermost (tree_of plan) kind n))
   pub ready : IsReadyFor (subject plan world n) kind (content w.tray) (has_value w.tray)
   pub put : CanPut (record { subject = subject plan world n; kind = kind }) w.results
-  pub frames : HasFrames w.handed w.tray w.results
 
 -- all that stands directly in p has results
 abbrev pub AreDone : Planned → ℕ → ResultsView → Type 0

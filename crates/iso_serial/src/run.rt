@@ -1,14 +1,14 @@
 //! A plan run on one thread.
-ghost use Rattle.std.specs.Prelude.{◌≡◌, ◌<◌, ℕ, IfOk, None, OnOk, Some, false, length, true};
-ghost use Rattle.iso_lifecycle.specs.ResultViews.{AreComplete, AreOpened, has_result, no_results, with_done_of};
+ghost use Rattle.std.specs.Prelude.{◌≡◌, ◌<◌, ℕ, IfOk, None, OnOk, false, length, true};
+ghost use Rattle.iso_lifecycle.specs.ResultViews.{AreComplete, has_result, no_results, with_done_of};
 ghost use Rattle.iso_lifecycle.specs.Subjects.{is_kind_of};
 ghost use Rattle.iso_locks.specs.Slots.{slot};
-ghost use Rattle.iso_locks.specs.Trays.{empty_tray, frames_on, is_lent};
+ghost use Rattle.iso_locks.specs.Trays.{empty_tray, is_lent};
 ghost use Rattle.iso_locks.specs.Vaults.{whole_vault};
-ghost use Rattle.iso_plan.specs.Paths.{is_test, parent, path, row_at};
+ghost use Rattle.iso_plan.specs.Paths.{is_test, parent, row_at};
 ghost use Rattle.iso_plan.specs.RowView.{tree_of};
 ghost use Rattle.iso_serial.specs.OpenedTrays.{IsTrayAfter};
-ghost use Rattle.iso_serial.specs.Walks.{AreDone, AtEntry, AtExit, BetweenNodes, CanPerform, GoesFurther, HasFrames, innermost};
+ghost use Rattle.iso_serial.specs.Walks.{AreDone, AtEntry, AtExit, BetweenNodes, CanPerform, GoesFurther, innermost};
 
 use iso_lifecycle::body::Body;
 use iso_lifecycle::gate::{Gate, OpenGate};
@@ -73,35 +73,7 @@ pub struct Serial<'g, 'a, G> {
 pub struct Walk<'a> {
     pub vault: Vault<'a>,
     pub tray: Tray<'a>,
-    /// The class whose frames the tray has, with those of its enclosing classes.
-    pub handed: Option<u32>,
     pub results: Results<'a>,
-}
-
-impl<'a> Walk<'a> {
-    /// Hands the tray the frames of a class and of its enclosing classes, unless it has them: all
-    /// tests of a class begin with the same.
-    fn hand_path(&mut self, class: u32) -> Result<(), AllocError>
-        requires plan { self.old.results.plan ≡ self.old.tray.plan }
-        requires node { class < length self.old.tray.plan.rows }
-        requires class { is_test (row_at (tree_of self.old.tray.plan) class).kind ≡ false }
-        requires opened { AreOpened self.old.results (path (tree_of self.old.tray.plan) class) }
-        requires frames { HasFrames self.old.handed self.old.tray self.old.results }
-        ensures vault { self.new.vault ≡ self.old.vault }
-        ensures results { self.new.results ≡ self.old.results }
-        ensures handed { OnOk result (self.new.handed ≡ Some class) }
-        ensures tray { OnOk result (self.new.tray
-            ≡ record self.old.tray { frames = frames_on self.old.results class }) }
-    {
-        match self.handed {
-            Some(handed) if handed == class => Ok(()),
-            _ => {
-                self.tray.hand_path(&self.results, class)?;
-                self.handed = Some(class);
-                Ok(())
-            }
-        }
-    }
 }
 
 impl<'g, 'a, G: Gate> Serial<'g, 'a, G> {
@@ -118,7 +90,6 @@ impl<'g, 'a, G: Gate> Serial<'g, 'a, G> {
         Ok(Walk {
             vault: Vault::new(self.alloc, self.plan, self.world)?,
             tray: Tray::new(self.alloc, self.plan, self.world)?,
-            handed: None,
             results: Results::new(self.alloc, self.plan, Snapshot::of(self.world))?,
         })
     }
@@ -250,11 +221,9 @@ impl<'g, 'a, G: Gate> Serial<'g, 'a, G> {
         ensures results { OnOk result (walk.new.results ≡ with_done_of kind node walk.old.results) }
         ensures values { OnOk result (IsTrayAfter self.now.plan.now self.now.world.now kind node
             walk.old.tray walk.new.tray) }
-        ensures frames { OnOk result
-            (HasFrames walk.new.handed walk.new.tray walk.new.results) }
     {
         let class = self.innermost(node, kind);
-        walk.hand_path(class)?;
+        walk.tray.hand_own_path(&walk.results, class)?;
         let frames = walk.tray.frames();
         let start = Snapshot::of(self.world);
         let body = Body::begin(self.alloc, self.plan, node, kind, frames, start)?;

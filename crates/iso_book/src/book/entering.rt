@@ -116,7 +116,7 @@ impl<'a> Book<'a> {
         laws::nodes_are_a_tree(self.plan);
         bodies_stand_as_alone(self.plan);
         let class = self.plan.parent(node).unwrap_or(0);
-        tray.hand_path(&self.results, class)
+        tray.hand_own_path(&self.results, class)
     }
 
     /// Takes an Enter that nothing refuses, and lends the node. Takes no memory.

@@ -102,7 +102,7 @@ impl<'a> Book<'a> {
     {
         laws::nodes_are_a_tree(self.plan);
         bodies_stand_as_alone(self.plan);
-        tray.hand_path(&self.results, node)
+        tray.hand_own_path(&self.results, node)
     }
 
     /// Takes a Shut that nothing refuses. Takes no memory.

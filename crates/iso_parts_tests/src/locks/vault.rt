@@ -220,11 +220,12 @@ fn most_keys(alloc: Global) -> Result<String, AllocError> {
     Ok(text)
 }
 
-/// The value of each of a suite's 256 keys is home in a new vault.
+/// The value of each of a suite's 256 keys is home in a new vault, beside two trays.
 fn check_home(rt: &impl Abort, alloc: Global, suite: &Suite) {
     assert_eq!(rt; suite.plan.key_count(), 256);
     let vault = Vault::new(alloc, &suite.plan, &suite.world).expect(rt, "memory");
-    let _tray = Tray::new(alloc, &suite.plan, &suite.world).expect(rt, "memory");
+    let tray = Tray::new(alloc, &suite.plan, &suite.world).expect(rt, "memory");
+    let _other = tray.another(alloc).expect(rt, "memory");
     assert_eq!(rt; away(&vault, &suite.plan), 0);
 }
 

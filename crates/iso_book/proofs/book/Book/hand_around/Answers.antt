@@ -14,8 +14,11 @@ use Rattle.iso_plan.specs.RowView.{tree_of}
 use Rattle.iso_standing.specs.declared.event.Event.TheVariants as Code
 use Rattle.iso_book.proofs.book.Book.hand_around.Goals as goal
 
-pub hand_path-requires-clause-opened : goal.hand_path-requires-clause-opened
-hand_path-requires-clause-opened c =
+pub hand_own_path-requires-clause-start : goal.hand_own_path-requires-clause-start
+hand_own_path-requires-clause-start c = c.self.invariant.results_world ∙ ap (λ (v : BookView). v.world) c.self.view_is ∙ sym c.requires.world
+
+pub hand_own_path-requires-clause-opened : goal.hand_own_path-requires-clause-opened
+hand_own_path-requires-clause-opened c =
     let i = c.self.inside in
     let w = c.args.worker in
     let n = c.args.node in
@@ -53,6 +56,6 @@ returns-clause-begins c =
     c.bodies_stand_as_alone.ensures.enclosed i.world.now (state_in b) n (reached b is.history (unstopped-enter b w n h)) pos inside (around b i.standing i.vault i.results room is tree w n h) in
     let class : c.unwrap_or-class.result ≡ parent (tree_of t.plan) n =
     parent-is (tree_of i.plan.now) n c.unwrap_or-class.result pos (c.unwrap_or-class.ensures ∙ ap (λ o. unwrap_or o 0) c.parent.ensures) ∙ ap (λ (q : Planned). parent (tree_of q) n) (sym p) in
-    on-ok c.hand_path.result c.hand_path.ensures.ok (λ e.
-    begins-in i.plan.now i.world.now n t p s pos inside well c.hand_path.new.self
-    (handed-is i.results t c.hand_path.new.self c.unwrap_or-class.result (is.results_plan ∙ sym p) (is.results_world ∙ sym s) e ∙ ap (handed t) class))
+    on-ok c.hand_own_path.result c.hand_own_path.ensures.ok (λ e.
+    begins-in i.plan.now i.world.now n t p s pos inside well c.hand_own_path.new.self
+    (handed-is i.results t c.hand_own_path.new.self c.unwrap_or-class.result (is.results_plan ∙ sym p) (is.results_world ∙ sym s) e ∙ ap (handed t) class))

@@ -12,8 +12,11 @@ use Rattle.iso_plan.specs.RowView.{tree_of}
 use Rattle.iso_standing.specs.declared.event.Event.TheVariants as Code
 use Rattle.iso_book.proofs.book.Book.hand_path.Goals as goal
 
-pub hand_path-requires-clause-opened : goal.hand_path-requires-clause-opened
-hand_path-requires-clause-opened c =
+pub hand_own_path-requires-clause-start : goal.hand_own_path-requires-clause-start
+hand_own_path-requires-clause-start c = c.self.invariant.results_world ∙ ap (λ (v : BookView). v.world) c.self.view_is ∙ sym c.requires.world
+
+pub hand_own_path-requires-clause-opened : goal.hand_own_path-requires-clause-opened
+hand_own_path-requires-clause-opened c =
     let i = c.self.inside in
     let w = c.args.worker in
     let n = c.args.node in
@@ -46,6 +49,6 @@ returns-clause-begins c =
     let alone = c.bodies_stand_as_alone.ensures in
     let well : (opening_of (enclosing (subject i.plan.now i.world.now n))).well ≡ true =
     alone.enclosed i.world.now (state_in b) n got pos inside (alone.around i.world.now (state_in b) n got pos inside (rests b i.standing i.vault i.results room is tree w n h)) in
-    on-ok c.hand_path.result c.hand_path.ensures.ok (λ e.
-    closes-in i.plan.now i.world.now n t p s pos inside well c.hand_path.new.self (handed-is i.results t c.hand_path.new.self n (is.results_plan ∙ sym p) (is.results_world ∙ sym s) e)
+    on-ok c.hand_own_path.result c.hand_own_path.ensures.ok (λ e.
+    closes-in i.plan.now i.world.now n t p s pos inside well c.hand_own_path.new.self (handed-is i.results t c.hand_own_path.new.self n (is.results_plan ∙ sym p) (is.results_world ∙ sym s) e)
     tree (class b i.standing i.vault i.results room is tree w n h))

@@ -8,4 +8,5 @@ invariant_of-self g c =
       desk = desk-members g.G.Ground.plan g.G.Ground.start g.G.Ground.workers i.book i.scheduler c.begin_wait.new.self c.begin_wait.ensures.rest c.begin_wait.ensures.sizes
           c.self.invariant.desk;
       seats = c.self.invariant.seats;
+      first = c.self.invariant.first;
     }

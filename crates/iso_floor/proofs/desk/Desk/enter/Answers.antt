@@ -17,4 +17,5 @@ invariant_of-self-2 g c =
           i.scheduler c.enter.new.self c.args.worker n c.plan-2.result.now c.held.result.now.held entered.held c.plan-2.ensures c.held.ensures.held step.keys step.past step.sizes step.lines
           entered.progress entered.event.is_allowed.allowed (ap (λ (x : SchedulerView). x.table) step.place) (ap (λ (x : SchedulerView). x.owners) step.place) c.self.invariant.desk;
       seats = c.self.invariant.seats;
+      first = c.self.invariant.first;
     }

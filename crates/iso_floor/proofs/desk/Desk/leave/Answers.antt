@@ -22,7 +22,11 @@ invariant_of-self-then-is_err g c =
     desk-left g.G.Ground.plan g.G.Ground.start g.G.Ground.workers i.book c.leave_own.new.self (Leave c.args.worker) left.event.book c.plan.result.now c.nodes_are_a_tree.ensures c.plan.ensures
     i.scheduler c.leave-left.new.self c.kind-kind.result c.node-node.result c.plan-2.result.now c.held.result.now.held held c.plan-2.ensures c.held.ensures.held step.stays step.keys step.past
     step.sizes step.lines progress step.places step.owners step.stands step.closes c.self.invariant.desk in
-    record { desk = desk-stopped g.G.Ground.plan g.G.Ground.start g.G.Ground.workers a c.stop.new.self c.leave-left.new.self c.stop.ensures is; seats = c.self.invariant.seats }
+    record {
+      desk = desk-stopped g.G.Ground.plan g.G.Ground.start g.G.Ground.workers a c.stop.new.self c.leave-left.new.self c.stop.ensures is;
+      seats = c.self.invariant.seats;
+      first = c.self.invariant.first;
+    }
 
 pub invariant_of-self-else-is_err : goal.invariant_of-self-else-is_err
 invariant_of-self-else-is_err g c =
@@ -39,7 +43,11 @@ invariant_of-self-else-is_err g c =
     desk-left g.G.Ground.plan g.G.Ground.start g.G.Ground.workers i.book c.leave_own.new.self (Leave c.args.worker) left.event.book c.plan.result.now c.nodes_are_a_tree.ensures c.plan.ensures
     i.scheduler c.leave-left.new.self c.kind-kind.result c.node-node.result c.plan-2.result.now c.held.result.now.held held c.plan-2.ensures c.held.ensures.held step.stays step.keys step.past
     step.sizes step.lines progress step.places step.owners step.stands step.closes c.self.invariant.desk in
-    record { desk = is; seats = c.self.invariant.seats }
+    record {
+      desk = is;
+      seats = c.self.invariant.seats;
+      first = c.self.invariant.first;
+    }
 
 pub returns-clause-event : goal.returns-clause-event
 returns-clause-event g c = rw (← c.self.view_is) (c.leave_own.new.self, c.in_ok-receipt.ensures.event)

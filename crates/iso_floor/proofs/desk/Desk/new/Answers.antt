@@ -5,6 +5,7 @@ use Rattle.iso_floor.specs.Desks.{IsDesk}
 use Rattle.iso_floor.specs.KeyMarks.{KeysView}
 use Rattle.iso_floor.specs.Parties.{owner_of}
 use Rattle.iso_floor.specs.Schedulers.{SchedulerView}
+use Rattle.iso_locks.specs.Trays.{TrayView}
 use Rattle.iso_floor.proofs.DeskLemmas.{desk-new}
 use Rattle.iso_floor.proofs.PlaceLemmas.{moved-kept}
 use Rattle.iso_floor.proofs.desk.Desk.new.Goals as goal
@@ -28,4 +29,8 @@ invariant_of-result-2 g c =
           (λ e. new.root tree.rooted (posted.closes 0 e))
           (λ some. c.in_ok-post_root.ensures.posted (subst (λ (k : ℕ). 0 < k) (sym c.in_ok-seats.ensures.number) some) tree.rooted new.sizes.nodes_are));
       seats = search rules;
+      first = record {
+        plan_is = ap (λ (t : TrayView). t.plan) c.in_ok-new-2.ensures ∙ c.requires.plan;
+        world_is = ap (λ (t : TrayView). t.world) c.in_ok-new-2.ensures ∙ c.requires.start;
+      };
     }

@@ -18,6 +18,7 @@ invariant_of-self g c =
           (subst (λ (s : SchedulerView). ClosesNone i.scheduler.table.places s.table.places) (sym c.next_for.ensures.left) (closes-taken i.scheduler.table c.next_for.result))
           c.self.invariant.desk;
       seats = c.self.invariant.seats;
+      first = c.self.invariant.first;
     }
 
 pub returns-clause-node : goal.returns-clause-node

@@ -14,6 +14,7 @@ invariant_of-self g c =
       desk = desk-step g.G.Ground.plan g.G.Ground.start g.G.Ground.workers i.book i.scheduler posted.new.scheduler posted.ensures.keys posted.ensures.owners posted.ensures.sizes
           (posted.ensures.lines g.G.Ground.plan.rows) posted.ensures.places (posted.ensures.stands g.G.Ground.plan) posted.ensures.closes c.self.invariant.desk;
       seats = c.self.invariant.seats;
+      first = c.self.invariant.first;
     }
 
 pub invariant_of-self-2 : goal.invariant_of-self-2
@@ -42,4 +43,5 @@ invariant_of-self-2 g c =
           (desk-step g.G.Ground.plan g.G.Ground.start g.G.Ground.workers i.book i.scheduler posted.new.scheduler posted.ensures.keys posted.ensures.owners posted.ensures.sizes (posted.ensures.lines rows)
           posted.ensures.places (posted.ensures.stands g.G.Ground.plan) posted.ensures.closes c.self.invariant.desk);
       seats = c.self.invariant.seats;
+      first = c.self.invariant.first;
     }

@@ -4,4 +4,8 @@ use Rattle.iso_floor.proofs.desk.Desk.share.Goals as goal
 pub invariant_of-self : goal.invariant_of-self
 invariant_of-self g c =
     let i = c.self.inside in
-    record { desk = desk-same g.G.Ground.plan g.G.Ground.start g.G.Ground.workers i.book i.scheduler c.share.new.self c.share.ensures c.self.invariant.desk; seats = c.self.invariant.seats }
+    record {
+      desk = desk-same g.G.Ground.plan g.G.Ground.start g.G.Ground.workers i.book i.scheduler c.share.new.self c.share.ensures c.self.invariant.desk;
+      seats = c.self.invariant.seats;
+      first = c.self.invariant.first;
+    }

@@ -16,4 +16,5 @@ invariant_of-self-2 g c =
           i.scheduler c.shut.new.self c.args.worker c.args.class shut.held (ap (λ (x : SchedulerView). x.keys) step.step) step.sizes step.lines shut.progress
           shut.event.is_allowed.allowed (ap (λ (x : SchedulerView). x.table) step.step) (ap (λ (x : SchedulerView). x.owners) step.step) c.self.invariant.desk;
       seats = c.self.invariant.seats;
+      first = c.self.invariant.first;
     }

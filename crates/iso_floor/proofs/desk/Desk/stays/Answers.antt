@@ -9,6 +9,7 @@ invariant_of-self g c =
     record {
       desk = desk-members g.G.Ground.plan g.G.Ground.start g.G.Ground.workers i.book i.scheduler c.stays.new.self c.stays.ensures.rest c.stays.ensures.sizes c.self.invariant.desk;
       seats = c.self.invariant.seats;
+      first = c.self.invariant.first;
     }
 
 pub returns-clause-nothing : goal.returns-clause-nothing

@@ -4,4 +4,8 @@ use Rattle.iso_floor.proofs.desk.Desk.stop.Goals as goal
 pub invariant_of-self : goal.invariant_of-self
 invariant_of-self g c =
     let i = c.self.inside in
-    record { desk = desk-stopped g.G.Ground.plan g.G.Ground.start g.G.Ground.workers i.book c.stop.new.self i.scheduler c.stop.ensures c.self.invariant.desk; seats = c.self.invariant.seats }
+    record {
+      desk = desk-stopped g.G.Ground.plan g.G.Ground.start g.G.Ground.workers i.book c.stop.new.self i.scheduler c.stop.ensures c.self.invariant.desk;
+      seats = c.self.invariant.seats;
+      first = c.self.invariant.first;
+    }

@@ -6,6 +6,6 @@ invariant_of-self g c =
     let i = c.self.inside in
     record {
       desk = desk-same g.G.Ground.plan g.G.Ground.start g.G.Ground.workers i.book i.scheduler c.take_opening.new.self c.take_opening.ensures c.self.invariant.desk;
-      seats =
-          c.self.invariant.seats;
+      seats = c.self.invariant.seats;
+      first = c.self.invariant.first;
     }

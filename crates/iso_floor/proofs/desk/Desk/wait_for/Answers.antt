@@ -19,4 +19,5 @@ invariant_of-self g c =
       desk = desk-table g.G.Ground.plan g.G.Ground.start g.G.Ground.workers i.book i.scheduler c.wait_for.new.self c.wait_for.ensures.rest c.wait_for.ensures.sizes
           (c.wait_for.ensures.lines g.G.Ground.plan.rows c.requires.takes) c.wait_for.ensures.places stands c.wait_for.ensures.closes c.self.invariant.desk;
       seats = c.self.invariant.seats;
+      first = c.self.invariant.first;
     }

@@ -8,6 +8,7 @@ invariant_of-self g c =
     record {
       desk = desk-members g.G.Ground.plan g.G.Ground.start g.G.Ground.workers i.book i.scheduler c.call.new.self c.call.ensures.marked c.call.ensures.sizes c.self.invariant.desk;
       seats = c.self.invariant.seats;
+      first = c.self.invariant.first;
     }
 
 pub returns-clause-nobody : goal.returns-clause-nobody

@@ -32,6 +32,7 @@ invariant_of-tray c =
       values_fit = count c.in_ok-tray-inside.field-0 c.tray.inside.plan.now all;
       starts_are = c.tray.invariant.starts_are;
       has_room = c.tray.invariant.has_room;
+      are_handed = c.tray.invariant.are_handed;
       are_owned =
           let count = length c.args.plan.now.rows in
           let lent_is : c.tray.inside.lent.held ≡ replicate count false = ap (λ (t : TrayView). t.lent) (c.tray.view_is ∙ c.in_ok-tray.ensures) in

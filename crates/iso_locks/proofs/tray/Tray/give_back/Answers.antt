@@ -26,13 +26,15 @@ move_values-requires-clause-within c =
 pub invariant_of-self : goal.invariant_of-self
 invariant_of-self c =
     let Kept : HeldView → Type 0 = λ l. IsTray c.self.inside.plan.now c.self.inside.world.now c.self.inside.flat l c.move_values.new.there c.self.inside.starts
-    (vec_capacity c.self.inside.frames) (vec_capacity c.self.inside.spare) c.self.inside.spare.items in
+    (vec_capacity c.self.inside.frames) (vec_capacity c.self.inside.spare) c.self.inside.spare.items
+    c.self.inside.handed c.self.inside.frames.items in
     subst Kept (sym c.take_back.ensures) (record {
       lent_of = c.self.invariant.lent_of;
       lent_fits = length-set c.self.inside.lent.held c.args.node false ∙ c.self.invariant.lent_fits;
       values_fit = there-count c.args.taken.now c.self.inside.values c.move_values.new.there c.move_values.ensures.there ∙ c.self.invariant.values_fit;
       starts_are = c.self.invariant.starts_are;
       has_room = c.self.invariant.has_room;
+      are_handed = c.self.invariant.are_handed;
       are_owned =
           let tree = tree_of c.self.inside.plan.now in
           let n = c.args.node in

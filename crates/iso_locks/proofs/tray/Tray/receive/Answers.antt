@@ -28,13 +28,15 @@ move_values-requires-clause-within c =
 pub invariant_of-self : goal.invariant_of-self
 invariant_of-self c =
     let Kept : HeldView → Type 0 = λ l. IsTray c.self.inside.plan.now c.self.inside.world.now c.self.inside.flat l c.move_values.new.here c.self.inside.starts
-    (vec_capacity c.self.inside.frames) (vec_capacity c.self.inside.spare) c.self.inside.spare.items in
+    (vec_capacity c.self.inside.frames) (vec_capacity c.self.inside.spare) c.self.inside.spare.items
+    c.self.inside.handed c.self.inside.frames.items in
     subst Kept (sym c.lend.ensures) (record {
       lent_of = c.self.invariant.lent_of;
       lent_fits = length-set c.self.inside.lent.held c.args.node true ∙ c.self.invariant.lent_fits;
       values_fit = here-count c.args.taken.now c.args.home.now c.self.inside.values c.move_values.new.here c.move_values.ensures.here ∙ c.self.invariant.values_fit;
       starts_are = c.self.invariant.starts_are;
       has_room = c.self.invariant.has_room;
+      are_handed = c.self.invariant.are_handed;
       are_owned =
           let tree = tree_of c.self.inside.plan.now in
           let n = c.args.node in

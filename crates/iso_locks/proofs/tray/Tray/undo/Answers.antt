@@ -18,6 +18,7 @@ invariant_of-self c = record {
   values_fit = column-count c.args.mark.values c.self.inside.values c.go_back.new.values c.go_back.ensures ∙ c.self.invariant.values_fit;
   starts_are = c.self.invariant.starts_are;
   has_room = c.self.invariant.has_room;
+  are_handed = c.self.invariant.are_handed;
   are_owned =
       let tree = tree_of c.self.inside.plan.now in
       let marks = c.args.mark.values in

@@ -84,5 +84,6 @@ invariant_of-self c =
       values_fit = on.values.fits ∙ c.self.invariant.values_fit;
       starts_are = c.self.invariant.starts_are;
       has_room = c.self.invariant.has_room;
+      are_handed = c.self.invariant.are_handed;
       are_owned = owned-still tree t.flat t.lent t.values u.values (on-there t u on.values) c.self.invariant.are_owned;
     }

@@ -1,4 +1,4 @@
-use Rattle.iso_serial.proofs.StepLemmas.{on-both, on-three, opened-end, opened-further, opening-can}
+use Rattle.iso_serial.proofs.StepLemmas.{on-both, opened-end, opened-further, opening-can}
 use Rattle.iso_serial.proofs.run.Serial.open.Goals as goal
 
 pub perform-requires : goal.perform-requires
@@ -7,8 +7,8 @@ perform-requires g c = opening-can c.args.self.now.plan.now c.args.self.now.worl
 pub returns-clause-between : goal.returns-clause-between
 returns-clause-between g c =
     let p = c.perform.ensures in
-    on-three c.perform.result p.results p.values p.frames
-    (λ re d fs. opened-end c.args.self.now.plan.now c.args.self.now.world.now c.args.node c.args.walk.now c.perform.new.walk c.requires.entry c.requires.class p.vault re d fs)
+    on-both c.perform.result p.results p.values
+    (λ re d. opened-end c.args.self.now.plan.now c.args.self.now.world.now c.args.node c.args.walk.now c.perform.new.walk c.requires.entry c.requires.class p.vault re d)
 
 pub returns-clause-further : goal.returns-clause-further
 returns-clause-further g c =

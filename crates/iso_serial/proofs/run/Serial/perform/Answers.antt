@@ -1,8 +1,8 @@
-use Rattle.std.proofs.Common.{◌≡◌, ℕ, ◌<◌, List, length, Option, ap, sym, subst, ◌∙◌}
+use Rattle.std.proofs.Common.{◌≡◌, ℕ, ◌<◌, List, length, ap, sym, subst, ◌∙◌}
 use Rattle.iso_lifecycle.proofs.WholeBodies.{stands-first}
 use Rattle.iso_lifecycle.specs.BodyViews.{Stands, kind_of_body, stage_of_body, subject_of}
 use Rattle.iso_lifecycle.specs.DoneViews.{DoneView}
-use Rattle.iso_lifecycle.specs.ResultViews.{AreOpened, CanPut, ResultsView, with_done}
+use Rattle.iso_lifecycle.specs.ResultViews.{AreOpened, CanPut, with_done}
 use Rattle.iso_lifecycle.specs.Subjects.{Subject, begun, rights_of_subject, subject}
 use Rattle.iso_lifecycle.specs.WholeBodies.{CanBegin, IsAfterBody}
 use Rattle.iso_lifecycle.specs.declared.kind.BodyKind.{BodyKind}
@@ -12,22 +12,25 @@ use Rattle.iso_plan.specs.Paths.{is_test, path, row_at}
 use Rattle.iso_plan.specs.Planned.{Planned}
 use Rattle.iso_plan.specs.RowView.{tree_of}
 use Rattle.iso_settings.specs.Worlds.{Start}
-use Rattle.iso_serial.proofs.TrayLemmas.{frames-apart, frames-put}
+use Rattle.iso_serial.proofs.TrayLemmas.{frames-apart}
 use Rattle.iso_serial.specs.OpenedTrays.{IsTrayAfter}
-use Rattle.iso_serial.specs.Walks.{HasFrames, innermost}
+use Rattle.iso_serial.specs.Walks.{innermost}
 use Rattle.iso_serial.proofs.run.Serial.perform.Goals as goal
 
-pub hand_path-requires-clause-plan : goal.hand_path-requires-clause-plan
-hand_path-requires-clause-plan g c = sym c.requires.put.plan ∙ sym c.requires.tray
+pub hand_own_path-requires-clause-plan : goal.hand_own_path-requires-clause-plan
+hand_own_path-requires-clause-plan g c = sym c.requires.put.plan ∙ sym c.requires.tray
 
-pub hand_path-requires-clause-node : goal.hand_path-requires-clause-node
-hand_path-requires-clause-node g c = subst (λ (p : Planned). c.innermost-class.result < length p.rows) (sym c.requires.tray) c.innermost-class.ensures.within
+pub hand_own_path-requires-clause-start : goal.hand_own_path-requires-clause-start
+hand_own_path-requires-clause-start g c = sym c.requires.put.start ∙ sym c.requires.start
 
-pub hand_path-requires-clause-class : goal.hand_path-requires-clause-class
-hand_path-requires-clause-class g c = ap (λ (p : Planned). is_test (row_at (tree_of p) c.innermost-class.result).kind) c.requires.tray ∙ c.innermost-class.ensures.class
+pub hand_own_path-requires-clause-node : goal.hand_own_path-requires-clause-node
+hand_own_path-requires-clause-node g c = subst (λ (p : Planned). c.innermost-class.result < length p.rows) (sym c.requires.tray) c.innermost-class.ensures.within
 
-pub hand_path-requires-clause-opened : goal.hand_path-requires-clause-opened
-hand_path-requires-clause-opened g c =
+pub hand_own_path-requires-clause-class : goal.hand_own_path-requires-clause-class
+hand_own_path-requires-clause-class g c = ap (λ (p : Planned). is_test (row_at (tree_of p) c.innermost-class.result).kind) c.requires.tray ∙ c.innermost-class.ensures.class
+
+pub hand_own_path-requires-clause-opened : goal.hand_own_path-requires-clause-opened
+hand_own_path-requires-clause-opened g c =
     let results = c.args.walk.now.results in
     let here = subst (λ (n : ℕ). AreOpened results (path (tree_of c.args.self.now.plan.now) n)) (sym c.innermost-class.ensures.is) c.requires.opened in
     subst (λ (p : Planned). AreOpened results (path (tree_of p) c.innermost-class.result)) (sym c.requires.tray) here
@@ -39,7 +42,7 @@ begin-requires g c =
     let n = c.args.node in
     let k = c.args.kind in
     let handed : frames_on c.args.walk.now.results (innermost (tree_of plan) k n) ≡ c.frames-frames.result.now =
-    ap (frames_on c.args.walk.now.results) (sym c.innermost-class.ensures.is) ∙ ap (λ (t : TrayView). t.frames) (sym c.in_ok-hand_path.ensures.tray) ∙ sym c.frames-frames.ensures in
+    ap (frames_on c.args.walk.now.results) (sym c.innermost-class.ensures.is) ∙ ap (λ (t : TrayView). t.frames) (sym c.in_ok-hand_own_path.ensures.ok) ∙ sym c.frames-frames.ensures in
     let here = subst (λ (fs : List Subject). CanBegin (subject plan world n) k fs) handed c.requires.begins in
     subst (λ (w : Start). CanBegin (subject plan w n) k c.frames-frames.result.now) (sym c.of-start.ensures) here
 
@@ -49,7 +52,7 @@ run-requires-clause-keys g c =
     let n = c.args.node in
     let is_of : subject_of c.in_ok-body.body ≡ subject plan c.args.self.now.world.now n = c.in_ok-body.ensures.subject ∙ ap (λ (w : Start). subject plan w n) c.of-start.ensures in
     let here = subst (λ (s : Subject). HasKeys (rights_of_subject s) (content c.args.walk.now.tray) (has_value c.args.walk.now.tray)) (sym is_of) c.requires.ready.keys in
-    subst (λ (t : TrayView). HasKeys (rights_of_subject (subject_of c.in_ok-body.body)) (content t) (has_value t)) (sym c.in_ok-hand_path.ensures.tray) here
+    subst (λ (t : TrayView). HasKeys (rights_of_subject (subject_of c.in_ok-body.body)) (content t) (has_value t)) (sym c.in_ok-hand_own_path.ensures.ok) here
 
 pub run-requires-clause-stands : goal.run-requires-clause-stands
 run-requires-clause-stands g c =
@@ -61,7 +64,7 @@ run-requires-clause-stands g c =
     let started : subject plan c.of-start.result.value n ≡ s = ap (λ (w : Start). subject plan w n) c.of-start.ensures in
     let stage : stage_of_body b ≡ (begun k s).stage = c.in_ok-body.ensures.begun ∙ ap (λ (t : Subject). (begun k t).stage) started in
     let here = stands-first b k s (content c.args.walk.now.tray) (c.in_ok-body.ensures.subject ∙ started) c.in_ok-body.ensures.kind stage c.requires.ready.stands in
-    subst (λ (t : TrayView). Stands b (content t)) (sym c.in_ok-hand_path.ensures.tray) here
+    subst (λ (t : TrayView). Stands b (content t)) (sym c.in_ok-hand_own_path.ensures.ok) here
 
 -- a done is told by its subject and its kind
 done-is : (d : DoneView) (s : Subject) (k : BodyKind) → d.subject ≡ s → d.kind ≡ k → d ≡ record { subject = s; kind = k }
@@ -72,22 +75,21 @@ put-requires g c =
     let s = subject c.args.self.now.plan.now c.args.self.now.world.now c.args.node in
     let started = ap (λ (w : Start). subject c.args.self.now.plan.now w c.args.node) c.of-start.ensures in
     let is = done-is c.in_ok-done.done s c.args.kind (c.in_ok-done.ensures.subject ∙ c.in_ok-body.ensures.subject ∙ started) (c.in_ok-done.ensures.kind ∙ c.in_ok-body.ensures.kind) in
-    let here = subst (λ (d : DoneView). CanPut d c.args.walk.now.results) (sym is) c.requires.put in
-    subst (λ (v : ResultsView). CanPut c.in_ok-done.done v) (sym c.hand_path.ensures.results) here
+    subst (λ (d : DoneView). CanPut d c.args.walk.now.results) (sym is) c.requires.put
 
 pub returns-clause-results : goal.returns-clause-results
 returns-clause-results g c =
     let s = subject c.args.self.now.plan.now c.args.self.now.world.now c.args.node in
     let started = ap (λ (w : Start). subject c.args.self.now.plan.now w c.args.node) c.of-start.ensures in
     let is = done-is c.in_ok-done.done s c.args.kind (c.in_ok-done.ensures.subject ∙ c.in_ok-body.ensures.subject ∙ started) (c.in_ok-done.ensures.kind ∙ c.in_ok-body.ensures.kind) in
-    c.put.ensures ∙ ap (with_done c.in_ok-done.done) c.hand_path.ensures.results ∙ ap (λ (d : DoneView). with_done d c.args.walk.now.results) is
+    c.put.ensures ∙ ap (λ (d : DoneView). with_done d c.args.walk.now.results) is
 
 pub returns-clause-values : goal.returns-clause-values
 returns-clause-values g c =
     let plan = c.args.self.now.plan.now in
     let world = c.args.self.now.world.now in
     let n = c.args.node in
-    let old = c.hand_path.new.self.tray in
+    let old = c.hand_own_path.new.self in
     let new = c.run.new.touch in
     let is_of : subject_of c.in_ok-body.body ≡ subject plan world n = c.in_ok-body.ensures.subject ∙ ap (λ (w : Start). subject plan w n) c.of-start.ensures in
     let here = subst (λ (s : Subject). IsAfterBody s (kind_of_body c.in_ok-body.body) (content old) (content new)) is_of c.in_ok-done.ensures.values in
@@ -99,18 +101,4 @@ returns-clause-values g c =
       after = subst (λ (k : BodyKind). IsAfterBody (subject plan world n) k (content old) (content new)) c.in_ok-body.ensures.kind here;
     } in
     frames-apart plan world c.args.kind n c.args.walk.now.tray new (frames_on c.args.walk.now.results c.innermost-class.result)
-    (subst (λ (t : TrayView). IsTrayAfter plan world c.args.kind n t new) c.in_ok-hand_path.ensures.tray after)
-
-pub returns-clause-frames : goal.returns-clause-frames
-returns-clause-frames g c =
-    let n = c.args.node in
-    let v = c.args.walk.now.results in
-    let class = c.innermost-class.result in
-    let s = subject c.args.self.now.plan.now c.args.self.now.world.now n in
-    let started = ap (λ (w : Start). subject c.args.self.now.plan.now w n) c.of-start.ensures in
-    let is = done-is c.in_ok-done.done s c.args.kind (c.in_ok-done.ensures.subject ∙ c.in_ok-body.ensures.subject ∙ started) (c.in_ok-done.ensures.kind ∙ c.in_ok-body.ensures.kind) in
-    let put : c.put.new.self ≡ with_done (record { subject = s; kind = c.args.kind }) v =
-    c.put.ensures ∙ ap (with_done c.in_ok-done.done) c.hand_path.ensures.results ∙ ap (λ (d : DoneView). with_done d v) is in
-    let frames : c.run.new.touch.frames ≡ frames_on c.put.new.self class =
-    c.run.ensures.goes_on.frames ∙ ap (λ (t : TrayView). t.frames) c.in_ok-hand_path.ensures.tray ∙ sym (ap (λ (r : ResultsView). frames_on r class) put ∙ frames-put c.args.kind n class v) in
-    subst (λ (h : Option ℕ). HasFrames h c.run.new.touch c.put.new.self) (sym c.in_ok-hand_path.ensures.handed) frames
+    (subst (λ (t : TrayView). IsTrayAfter plan world c.args.kind n t new) c.in_ok-hand_own_path.ensures.ok after)

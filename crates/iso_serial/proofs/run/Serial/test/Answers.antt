@@ -1,5 +1,5 @@
 use Rattle.iso_lifecycle.specs.declared.kind.BodyKind.TheVariants.{Test}
-use Rattle.iso_serial.proofs.StepLemmas.{ended-further, on-both, on-three, test-can, test-end}
+use Rattle.iso_serial.proofs.StepLemmas.{ended-further, on-both, test-can, test-end}
 use Rattle.iso_serial.proofs.run.Serial.test.Goals as goal
 
 pub perform-requires : goal.perform-requires
@@ -8,8 +8,8 @@ perform-requires g c = test-can c.args.self.now.plan.now c.args.self.now.world.n
 pub returns-clause-exit : goal.returns-clause-exit
 returns-clause-exit g c =
     let p = c.perform.ensures in
-    on-three c.perform.result p.results p.values p.frames
-    (λ re d fs. test-end c.args.self.now.plan.now c.args.self.now.world.now c.args.node c.args.walk.now c.perform.new.walk c.requires.entry c.requires.test p.vault re d fs)
+    on-both c.perform.result p.results p.values
+    (λ re d. test-end c.args.self.now.plan.now c.args.self.now.world.now c.args.node c.args.walk.now c.perform.new.walk c.requires.entry c.requires.test p.vault re d)
 
 pub returns-clause-further : goal.returns-clause-further
 returns-clause-further g c =

@@ -9,7 +9,7 @@ use Rattle.iso_locks.proofs.OwnerLemmas.{none-there, owned-none}
 use Rattle.iso_locks.specs.Owners.{AreOwned}
 use Rattle.iso_locks.specs.Slots.{Slots, slot}
 use Rattle.iso_locks.specs.Trays.{TrayView}
-use Rattle.iso_locks.proofs.tray.Tray.new.Goals as goal
+use Rattle.iso_locks.proofs.tray.Tray.over.Goals as goal
 
 pub invariant_of-result : goal.invariant_of-result
 invariant_of-result c =
@@ -20,12 +20,13 @@ invariant_of-result c =
       lent_of = ap (λ (h : HeldView). h.plan) c.in_ok-new.ensures;
       lent_fits = ap length lent ∙ length-replicate (length plan.rows) false;
       values_fit = ap length c.in_ok-empty.ensures ∙ length-replicate c.key_count-count.result none ∙ c.key_count-count.ensures;
-      starts_are = c.in_ok-starts_of.ensures;
+      starts_are = c.starts.view_is ∙ c.requires;
       has_room =
           let depth_is = c.depth-depth.ensures in
           let frames = c.in_ok-with_capacity.ensures.exact in
           let spare = c.in_ok-with_capacity-2.ensures.exact in
           record { frames = omega arith; gathered = omega arith; empty = c.in_ok-with_capacity-2.ensures.items };
+      are_handed = tt;
       are_owned =
           let Own : List Bool → Type 0 = λ l. AreOwned (tree_of plan) false l c.in_ok-empty.field-0 in
           subst Own (sym lent)
