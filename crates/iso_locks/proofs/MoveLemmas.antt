@@ -7,14 +7,14 @@ use Rattle.iso_model.specs.declared.access.Access.{Access}
 use Rattle.iso_model.specs.declared.access.Access.TheVariants.{Read, Write}
 use Rattle.iso_plan.proofs.ColumnLemmas.{column-from, length-column}
 use Rattle.iso_plan.proofs.LeadLemmas.{lead-takes}
-use Rattle.iso_plan.proofs.PathLemmas.{eq_from, eq_same}
+use Rattle.iso_plan.proofs.PathLemmas.{eq_from, eq_not, eq_same}
 use Rattle.iso_plan.specs.HeldNodes.{is_access, takes_in}
 use Rattle.iso_plan.specs.KeyTable.{keys}
 use Rattle.iso_plan.specs.Locks.{is_write, locks, locks_from, taken}
 use Rattle.iso_plan.specs.Tree.{Row}
 use Rattle.iso_plan.specs.declared.lock.Lock.{Lock}
 use Rattle.iso_store.specs.Histories.{History}
-use Rattle.iso_locks.specs.Moves.{AreAllWritten, AreWithin, is_written, moved_away, moved_here, put_here, taken_away, writes_key}
+use Rattle.iso_locks.specs.Moves.{AreAllButFirst, AreWithin, BeginAtSecond, is_written, moved_away, moved_here, put_here, taken_away, writes_key}
 use Rattle.iso_locks.specs.Slots.{Slots, slot}
 use Rattle.iso_locks.specs.Vaults.{IsOneGroup}
 
@@ -131,6 +131,10 @@ here-count ls there here next e = ap length e ∙ length-column (λ i. cond (is_
 pub there-count : (ls : List Lock) (there next : Slots) → next ≡ moved_away ls there → length next ≡ length there
 there-count ls there next e = ap length e ∙ length-column (λ i. cond (is_written ls i) None (slot there i)) (length there)
 
+and-left : (a b : Bool) → (a && b) ≡ true → a ≡ true
+and-left true b e = refl
+and-left false b e = absurd (cc)
+
 or-right : (a b : Bool) → b ≡ true → (a || b) ≡ true
 or-right true b e = refl
 or-right false b e = e
@@ -150,18 +154,52 @@ by_away : (w : Bool) (t : Option History) → w ≡ true → None ≡ cond w Non
 by_away true t e = refl
 by_away false t e = absurd (cc)
 
--- all values move to where none is
-pub all-here : (ls : List Lock) (there here : Slots) → length there ≡ length here → ((i : ℕ) → slot here i ≡ None) → AreAllWritten (length there) ls
-    → there ≡ moved_here ls there here
-all-here ls there here fits none all =
-    column-from (λ i. cond (is_written ls i) (option_or (slot there i) (slot here i)) (slot here i)) there (length here) fits
-    (λ i d h. let within : i < length there = omega (arith, fits, h) in get_or_default there i d None within ∙ by_all (is_written ls i) (slot there i) (slot here i) (all i within) (none i))
+by_left : (w : Bool) (t h : Option History) → w ≡ false → h ≡ None → None ≡ cond w (option_or t h) h
+by_left true t h e none = absurd (cc)
+by_left false t h e none = sym none
 
-pub all-away : (ls : List Lock) (there here : Slots) → length there ≡ length here → ((i : ℕ) → slot here i ≡ None) → AreAllWritten (length there) ls
-    → here ≡ moved_away ls there
+by_kept : (w : Bool) (t h : Option History) → w ≡ false → h ≡ None → option_or t h ≡ cond w None t
+by_kept true t h e none = absurd (cc)
+by_kept false None h e none = none
+by_kept false (Some v) h e none = refl
+
+off-first : (i : ℕ) → suc i ≢ 0
+off-first i same = omega arith
+
+here-at : (ls : List Lock) (there here : Slots) → ((i : ℕ) → slot here i ≡ None) → AreAllButFirst (length there) ls → (i : ℕ) → i < length there
+    → slot (set there 0 None) i ≡ cond (is_written ls i) (option_or (slot there i) (slot here i)) (slot here i)
+here-at ls there here none all zero h = get_or-set_same there 0 None None h ∙ by_left (is_written ls 0) (slot there 0) (slot here 0) all.first (none 0)
+here-at ls there here none all (suc i) h =
+    get_or-set_other there 0 (suc i) None None (off-first i) ∙ by_all (is_written ls (suc i)) (slot there (suc i)) (slot here (suc i)) (all.others (suc i) (omega arith) h) (none (suc i))
+
+away-at : (ls : List Lock) (there here : Slots) → length there ≡ length here → ((i : ℕ) → slot here i ≡ None) → AreAllButFirst (length there) ls → (i : ℕ) → i < length there
+    → slot (set here 0 (option_or (slot there 0) (slot here 0))) i ≡ cond (is_written ls i) None (slot there i)
+away-at ls there here fits none all zero h =
+    let some : 0 < length here = omega (arith, fits, h) in
+    get_or-set_same here 0 (option_or (slot there 0) (slot here 0)) None some ∙ by_kept (is_written ls 0) (slot there 0) (slot here 0) all.first (none 0)
+away-at ls there here fits none all (suc i) h =
+    get_or-set_other here 0 (suc i) (option_or (slot there 0) (slot here 0)) None (off-first i) ∙ none (suc i)
+    ∙ by_away (is_written ls (suc i)) (slot there (suc i)) (all.others (suc i) (omega arith) h)
+
+-- all values but the first move to where none is
+pub all-here : (ls : List Lock) (there here : Slots) → length there ≡ length here → ((i : ℕ) → slot here i ≡ None) → AreAllButFirst (length there) ls
+    → set there 0 None ≡ moved_here ls there here
+all-here ls there here fits none all =
+    column-from (λ i. cond (is_written ls i) (option_or (slot there i) (slot here i)) (slot here i)) (set there 0 None) (length here) (length-set there 0 None ∙ fits)
+    (λ i d h.
+    let within : i < length there = omega (arith, fits, h) in
+    let inside : i < length (set there 0 None) = rw (length-set there 0 None) within in
+    get_or_default (set there 0 None) i d None inside ∙ here-at ls there here none all i within)
+
+pub all-away : (ls : List Lock) (there here : Slots) → length there ≡ length here → ((i : ℕ) → slot here i ≡ None) → AreAllButFirst (length there) ls
+    → set here 0 (option_or (slot there 0) (slot here 0)) ≡ moved_away ls there
 all-away ls there here fits none all =
-    column-from (λ i. cond (is_written ls i) None (slot there i)) here (length there) (sym fits)
-    (λ i d h. let within : i < length here = omega (arith, fits, h) in get_or_default here i d None within ∙ none i ∙ by_away (is_written ls i) (slot there i) (all i h))
+    let value = option_or (slot there 0) (slot here 0) in
+    column-from (λ i. cond (is_written ls i) None (slot there i)) (set here 0 value) (length there) (length-set here 0 value ∙ sym fits)
+    (λ i d h.
+    let within : i < length here = omega (arith, fits, h) in
+    let inside : i < length (set here 0 value) = rw (length-set here 0 value) within in
+    get_or_default (set here 0 value) i d None inside ∙ away-at ls there here fits none all i h)
 
 write-access : (a : Access) → is_access Write a ≡ is_writable (Some a)
 write-access Read = refl
@@ -171,7 +209,37 @@ written-takes : (ls : List Lock) (i : ℕ) → takes_in Write i ls ≡ is_writte
 written-takes [] i = refl
 written-takes (l ∷ ls) i = ap₂ (λ (a b : Bool). (l.key == i && a) || b) (write-access l.access) (written-takes ls i)
 
--- a node that takes the first key of one group for READ_WRITE takes all keys so
-pub all-written : (tree : List Row) (n : ℕ) → n < length tree → IsOneGroup tree → is_written (locks tree n) 0 ≡ true → AreAllWritten (length (keys tree)) (locks tree n)
-all-written tree n h one first i below =
-    sym (written-takes (locks tree n) i) ∙ lead-takes tree n i Write h ∙ ap (λ (k : ℕ). takes_in Write k (locks tree n)) (one i below) ∙ written-takes (locks tree n) 0 ∙ first
+-- locks on keys behind a first one are on none before
+none-before : (j : ℕ) (accesses : List (Option Access)) → is_written (locks_from (suc j) accesses) 0 ≡ false
+none-before j [] = refl
+none-before j (None ∷ rest) = none-before (suc j) rest
+none-before j (Some a ∷ rest) =
+    let apart : (suc j == 0) ≡ false = eq_not (suc j) 0 (off-first j) in
+    ap (λ (b : Bool). (b && is_writable (Some a)) || is_written (locks_from (suc (suc j)) rest) 0) apart ∙ none-before (suc j) rest
+
+second-of : (l : Lock) (ls : List Lock) → BeginAtSecond (l ∷ ls) → l.key ≡ 1
+second-of l ls e = eq_from l.key 1 (and-left (l.key == 1) (is_write l) e)
+
+first-off : (accesses : List (Option Access)) → BeginAtSecond (locks_from 0 accesses) → is_written (locks_from 0 accesses) 0 ≡ false
+first-off [] e = absurd e
+first-off (None ∷ rest) e = none-before 0 rest
+first-off (Some a ∷ rest) e = absurd (off-first 0 (sym (second-of (record { key = 0; access = a }) (locks_from 1 rest) e)))
+
+second-written : (ls : List Lock) → BeginAtSecond ls → is_written ls 1 ≡ true
+second-written [] e = absurd e
+second-written (l ∷ ls) e = ap (λ (b : Bool). b || is_written ls 1) e
+
+second-within : (n : ℕ) (ls : List Lock) → BeginAtSecond ls → AreWithin n ls → 0 < n
+second-within n [] e w = absurd e
+second-within n (l ∷ ls) e w = let same : l.key ≡ 1 = second-of l ls e in let below : l.key < n = w.0 in omega arith
+
+-- a node that takes the second key of one group for READ_WRITE before any other takes all keys so but the first
+pub all-written : (tree : List Row) (n : ℕ) → n < length tree → IsOneGroup tree → BeginAtSecond (locks tree n) → AreAllButFirst (length (keys tree)) (locks tree n)
+all-written tree n h one begins =
+    record {
+      some = second-within (length (keys tree)) (locks tree n) begins (locks-within tree n);
+      first = first-off (map (taken tree n) (keys tree)) begins;
+      others = λ i above below.
+          sym (written-takes (locks tree n) i) ∙ lead-takes tree n i Write h ∙ ap (λ (k : ℕ). takes_in Write k (locks tree n)) (one i above below) ∙ written-takes (locks tree n) 1
+          ∙ second-written (locks tree n) begins;
+    }

@@ -39,6 +39,13 @@ abbrev pub AreWithin : ℕ → List Lock → Type 0
 AreWithin n [] = Unit {0}
 AreWithin n (l ∷ ls) = (l.key < n) × AreWithin n ls
 
--- some locks are for READ_WRITE on each of the first n keys
-abbrev pub AreAllWritten : ℕ → List Lock → Type 0
-AreAllWritten n locks = (i : ℕ) → i < n → is_written locks i ≡ true
+-- of n keys some locks are for READ_WRITE on each but the first, on which none is
+pub record AreAllButFirst (n : ℕ) (locks : List Lock) : Type 0 where
+  pub some : 0 < n
+  pub first : is_written locks 0 ≡ false
+  pub others : (i : ℕ) → 0 < i → i < n → is_written locks i ≡ true
+
+-- the first of some locks is on the second key, for READ_WRITE
+abbrev pub BeginAtSecond : List Lock → Type 0
+BeginAtSecond [] = ⊥
+BeginAtSecond (l ∷ ls) = writes_key l 1 ≡ true

@@ -161,9 +161,9 @@ pub record IsVault (planned : Planned) (start : Start) (given : List Bool)
       → h.now ≡ starting_value_in start (key_at (tree_of planned) i)
   pub away : (i : ℕ) → i < length values → slot values i ≡ None → IsOwned (tree_of planned) given i
 
--- each node takes all keys alike, or none of them: the first key leads all
+-- each node takes all keys but the global one alike, or none of them: the second key leads them
 abbrev pub IsOneGroup : List Row → Type 0
-IsOneGroup tree = (i : ℕ) → i < length (keys tree) → lead tree i ≡ 0
+IsOneGroup tree = (i : ℕ) → 0 < i → i < length (keys tree) → lead tree i ≡ 1
 
 -- the same of all that it keeps: the nodes that it keeps as held are of its plan, and it knows
 -- whether the keys are one group

@@ -1,7 +1,7 @@
 //! Values that move between slots of the same numbers.
 ghost use Rattle.std.specs.Prelude.{◌≡◌, ◌<◌, None, length, slice_set, true};
 ghost use Rattle.std.specs.Option.{option_or};
-ghost use Rattle.iso_locks.specs.Moves.{AreAllWritten, AreWithin, is_written, moved_away, moved_here, put_here, taken_away, writes_key};
+ghost use Rattle.iso_locks.specs.Moves.{AreAllButFirst, AreWithin, BeginAtSecond, moved_away, moved_here, put_here, taken_away, writes_key};
 ghost use Rattle.iso_locks.specs.Slots.{slot};
 
 use crate::slots::Slots;
@@ -10,17 +10,18 @@ use iso_plan::lock::Lock;
 use std::mem;
 
 /// Moves what locks for READ_WRITE are on from there to here, where it is there. `all` tells that
-/// they are on every key, where that is known: if nothing is here then, it costs the same for many
-/// keys as for one. Takes no memory.
+/// they are on every key but the first, where that is known: if nothing is here then, it costs the
+/// same for many keys as for one. Takes no memory.
 pub(crate) fn move_values(locks: &[Lock], all: bool, there: &mut Slots, here: &mut Slots)
     requires fits { length there.old ≡ length here.old }
     requires within { AreWithin (length here.old) locks.now }
-    requires all { all ≡ true → AreAllWritten (length there.old) locks.now }
+    requires all { all ≡ true → AreAllButFirst (length there.old) locks.now }
     ensures here { here.new ≡ moved_here locks.now there.old here.old }
     ensures there { there.new ≡ moved_away locks.now there.old }
 {
     if all && here.has_none() {
         mem::swap(there, here);
+        move_slot(0, here, there);
         return;
     }
     'locks: for n in 0..locks.len() {
@@ -28,14 +29,14 @@ pub(crate) fn move_values(locks: &[Lock], all: bool, there: &mut Slots, here: &m
     }
 }
 
-/// Whether the first of some locks is on the first key, for READ_WRITE.
-pub(crate) fn write_first(locks: &[Lock]) -> bool
-    ensures { result ≡ true → is_written locks.now 0 ≡ true }
+/// Whether the first of some locks is on the second key, for READ_WRITE.
+pub(crate) fn begin_at_second(locks: &[Lock]) -> bool
+    ensures { result ≡ true → BeginAtSecond locks.now }
 {
     if locks.is_empty() {
         return false;
     }
-    writes(locks[0], 0)
+    writes(locks[0], 1)
 }
 
 /// Whether a lock is on a key for READ_WRITE.

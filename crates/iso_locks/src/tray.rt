@@ -8,7 +8,7 @@ ghost use Rattle.iso_locks.specs.Flats.{IsFlat, flat};
 ghost use Rattle.iso_lifecycle.specs.ResultViews.{AreOpened};
 ghost use Rattle.iso_lifecycle.specs.Subjects.{started};
 ghost use Rattle.iso_locks.specs.Trays.{CanUndo, empty_tray, frames_on, is_lent, marked, restored, start_at, undone};
-ghost use Rattle.iso_locks.specs.Moves.{AreAllWritten, is_written, moved_away, moved_here};
+ghost use Rattle.iso_locks.specs.Moves.{AreAllButFirst, is_written, moved_away, moved_here};
 ghost use Rattle.iso_locks.specs.Vaults.{giving_back, receiving};
 ghost use Rattle.iso_plan.specs.HeldNodes.{any_held};
 ghost use Rattle.iso_plan.specs.KeyTable.{keys};
@@ -332,12 +332,12 @@ impl<'a> Tray<'a> {
     }
 
     /// Holds a node from now on, with the values that its locks for READ_WRITE are on. `all` tells
-    /// that they are on every key, where that is known.
+    /// that they are on every key but the first, where that is known.
     pub(crate) fn receive(&mut self, node: u32, taken: &[Lock], all: bool, home: &mut Slots)
         requires node { node < length self.old.plan.rows }
         requires home { length home.old ≡ length (keys (tree_of self.old.plan)) }
         requires taken { taken.now ≡ locks (tree_of self.old.plan) node }
-        requires all { all ≡ true → AreAllWritten (length home.old) taken.now }
+        requires all { all ≡ true → AreAllButFirst (length home.old) taken.now }
         requires there { (i : ℕ) → is_written (locks (tree_of self.old.plan) node) i ≡ true
             → is_some (slot home.old i) ≡ true }
         requires apart { is_lent self.old.lent node ≡ false }
@@ -356,12 +356,12 @@ impl<'a> Tray<'a> {
     }
 
     /// Holds a node no longer. The values that its locks for READ_WRITE are on come home. `all` tells
-    /// that they are on every key, where that is known.
+    /// that they are on every key but the first, where that is known.
     pub(crate) fn give_back(&mut self, node: u32, taken: &[Lock], all: bool, home: &mut Slots)
         requires node { node < length self.old.plan.rows }
         requires home { length home.old ≡ length (keys (tree_of self.old.plan)) }
         requires taken { taken.now ≡ locks (tree_of self.old.plan) node }
-        requires all { all ≡ true → AreAllWritten (length home.old) taken.now }
+        requires all { all ≡ true → AreAllButFirst (length home.old) taken.now }
         requires holds { is_lent self.old.lent node ≡ true }
         ensures fits { length self.old.values ≡ length (keys (tree_of self.old.plan)) }
         ensures tray { self.new ≡ giving_back node self.old }

@@ -1,6 +1,6 @@
 //! The values that no worker holds.
 ghost use Rattle.std.specs.Prelude.{◌≡◌, ◌<◌, ℕ, IfOk, MatchResult, None, OnErr, OnOk, Some, is_some, length, map, replicate, true};
-ghost use Rattle.iso_locks.specs.Moves.{AreAllWritten};
+ghost use Rattle.iso_locks.specs.Moves.{AreAllButFirst};
 ghost use Rattle.iso_locks.specs.Slots.{slot};
 ghost use Rattle.iso_locks.specs.Trays.{is_lent, key_at};
 ghost use Rattle.iso_locks.specs.Vaults.{CanLend, CanTakeBack, IsLentTo, IsOneGroup, busy, giving_back, is_home, lending, regaining, whole_vault};
@@ -10,7 +10,7 @@ ghost use Rattle.iso_plan.specs.RowView.{tree_of};
 ghost use Rattle.iso_settings.specs.Worlds.{starting_value_in};
 ghost use Rattle.iso_store.specs.Histories.{History};
 
-use crate::moves::write_first;
+use crate::moves::begin_at_second;
 use crate::slots::Slots;
 use crate::tray::Tray;
 use iso_model::key::Key;
@@ -35,7 +35,7 @@ pub struct Vault<'a> {
     plan: &'a Plan,
     world: &'a World,
     lent: HeldNodes<'a>,
-    /// Whether each node takes all keys alike, or none of them.
+    /// Whether each node takes all keys but the global one alike, or none of them.
     is_one_group: bool,
     values: Slots,
 }
@@ -147,17 +147,17 @@ impl<'a> Vault<'a> {
         tray.give_back(node, locks, all, &mut self.values);
     }
 
-    /// Whether it is known that a node takes every key for READ_WRITE: it takes the first one so,
-    /// and all others alike.
+    /// Whether it is known that a node takes every key but the global one for READ_WRITE: it takes
+    /// the second one so before any other, and all behind it alike.
     fn takes_all(&self, node: u32) -> bool
         requires { node < length self.now.plan.rows }
-        ensures { result ≡ true → AreAllWritten (length (keys (tree_of self.now.plan)))
+        ensures { result ≡ true → AreAllButFirst (length (keys (tree_of self.now.plan)))
             (locks (tree_of self.now.plan) node) }
     {
         if !self.is_one_group {
             return false;
         }
-        write_first(self.plan.locks(node))
+        begin_at_second(self.plan.locks(node))
     }
 }
 
@@ -175,12 +175,12 @@ impl<'a> Holders for Vault<'a> {
     }
 }
 
-/// Whether each node of a plan takes all keys alike, or none of them.
+/// Whether each node of a plan takes all keys but the global one alike, or none of them.
 fn is_one_group(plan: &Plan) -> bool
     ensures { result ≡ true → IsOneGroup (tree_of plan.now) }
 {
-    'keys: for key in 0..plan.key_count() {
-        if plan.lead(key) != 0 {
+    'keys: for key in 1..plan.key_count() {
+        if plan.lead(key) != 1 {
             return false;
         }
     }

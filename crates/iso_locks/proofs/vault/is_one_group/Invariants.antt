@@ -4,4 +4,4 @@ use Rattle.iso_plan.specs.RowView.{tree_of}
 use Rattle.iso_locks.proofs.vault.is_one_group.Given as goal
 
 abbrev pub invariant-keys : goal.invariant-keys
-invariant-keys l = (i : ℕ) → i < l.key → lead (tree_of l.plan) i ≡ 0
+invariant-keys l = (i : ℕ) → 0 < i → i < l.key → lead (tree_of l.plan) i ≡ 1

@@ -1,4 +1,4 @@
-use Rattle.std.proofs.Common.{◌≡◌, ◌<◌, ℕ, List, length, set, true, false, ap, sym, ◌∙◌, subst, arith}
+use Rattle.std.proofs.Common.{◌≡◌, ◌<◌, ℕ, List, length, set, true, false, ap, sym, ◌∙◌, subst}
 use Rattle.std.specs.Vec.{vec_capacity}
 use Rattle.std.proofs.lemmas.List.{length-set}
 use Rattle.iso_plan.specs.HeldNodes.{HeldView}
@@ -8,7 +8,7 @@ use Rattle.iso_plan.specs.Planned.{Planned}
 use Rattle.iso_plan.specs.RowView.{tree_of}
 use Rattle.iso_plan.specs.declared.lock.Lock.{Lock}
 use Rattle.iso_plan.specs.Tree.{Row}
-use Rattle.iso_locks.specs.Moves.{AreWithin, moved_away}
+use Rattle.iso_locks.specs.Moves.{AreAllButFirst, AreWithin, moved_away}
 use Rattle.iso_locks.specs.Owners.{AreOwned, IsTray}
 use Rattle.iso_locks.specs.Slots.{Slots}
 use Rattle.iso_locks.specs.Trays.{TrayView, is_lent}
@@ -55,4 +55,4 @@ take_back-requires-clause-node c =
 pub move_values-requires-clause-all : goal.move_values-requires-clause-all
 move_values-requires-clause-all c =
     let same : length c.args.home.now ≡ length c.self.inside.values = c.requires.home ∙ ap (λ (t : TrayView). length (keys (tree_of t.plan))) (sym c.self.view_is) ∙ sym c.self.invariant.values_fit in
-    λ e i below. c.requires.all e i (omega (arith, below, same))
+    λ e. subst (λ (m : ℕ). AreAllButFirst m c.args.taken.now) same (c.requires.all e)

@@ -1,13 +1,12 @@
-use Rattle.std.proofs.Common.{◌≡◌, ◌<◌, List, length, map, set, None, Bool, true, is_some, ap, sym, ◌∙◌, subst, arith}
+use Rattle.std.proofs.Common.{◌≡◌, ◌<◌, ℕ, List, length, map, set, None, Bool, true, is_some, ap, sym, ◌∙◌, subst, arith}
 use Rattle.iso_plan.specs.Conflicts.{lowest_in_the_way}
 use Rattle.iso_plan.specs.HeldNodes.{HeldView}
 use Rattle.iso_plan.specs.KeyTable.{keys}
 use Rattle.iso_plan.specs.Locks.{locks}
 use Rattle.iso_plan.specs.Planned.{Planned}
 use Rattle.iso_plan.specs.RowView.{tree_of}
-use Rattle.iso_plan.specs.declared.lock.Lock.{Lock}
 use Rattle.iso_settings.specs.Worlds.{Start}
-use Rattle.iso_locks.specs.Moves.{AreAllWritten, is_written, moved_away}
+use Rattle.iso_locks.specs.Moves.{AreAllButFirst, is_written, moved_away}
 use Rattle.iso_locks.specs.Slots.{Slots}
 use Rattle.iso_locks.specs.Trays.{TrayView, is_lent}
 use Rattle.iso_locks.specs.Vaults.{IsLentTo, IsVault, VaultView, busy, lending}
@@ -84,7 +83,8 @@ hold-requires c =
 pub receive-requires-clause-all : goal.receive-requires-clause-all
 receive-requires-clause-all c =
     let n = c.args.node in
-    let All : VaultView → Type 0 = λ v. AreAllWritten (length (keys (tree_of v.plan))) (locks (tree_of v.plan) n) in
-    λ e i below.
-    let all = subst All (sym c.self.view_is) (c.takes_all-all.ensures e) in
-    ap (λ (ls : List Lock). is_written ls i) c.locks-locks.ensures.locks ∙ all i (omega (arith, below, c.self.invariant.lists.values_fit))
+    let All : VaultView → Type 0 = λ v. AreAllButFirst (length (keys (tree_of v.plan))) (locks (tree_of v.plan) n) in
+    λ e.
+    let all : AreAllButFirst (length (keys (tree_of c.self.inside.plan.now))) (locks (tree_of c.self.inside.plan.now) n) = subst All (sym c.self.view_is) (c.takes_all-all.ensures e) in
+    let taken = subst (AreAllButFirst (length (keys (tree_of c.self.inside.plan.now)))) (sym c.locks-locks.ensures.locks) all in
+    subst (λ (m : ℕ). AreAllButFirst m c.locks-locks.result.now) (sym c.self.invariant.lists.values_fit) taken

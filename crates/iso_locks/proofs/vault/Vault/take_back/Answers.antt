@@ -4,9 +4,8 @@ use Rattle.iso_plan.specs.KeyTable.{keys}
 use Rattle.iso_plan.specs.Locks.{locks}
 use Rattle.iso_plan.specs.Planned.{Planned}
 use Rattle.iso_plan.specs.RowView.{tree_of}
-use Rattle.iso_plan.specs.declared.lock.Lock.{Lock}
 use Rattle.iso_settings.specs.Worlds.{Start, starting_value_in}
-use Rattle.iso_locks.specs.Moves.{AreAllWritten, is_written, moved_here}
+use Rattle.iso_locks.specs.Moves.{AreAllButFirst, is_written, moved_here}
 use Rattle.iso_locks.specs.Slots.{Slots}
 use Rattle.iso_locks.specs.Trays.{TrayView, key_at}
 use Rattle.iso_locks.specs.Vaults.{IsVault, StandsAtStart, VaultView, regaining}
@@ -61,7 +60,8 @@ release-requires c =
 pub give_back-requires-clause-all : goal.give_back-requires-clause-all
 give_back-requires-clause-all c =
     let n = c.args.node in
-    let All : VaultView → Type 0 = λ v. AreAllWritten (length (keys (tree_of v.plan))) (locks (tree_of v.plan) n) in
-    λ e i below.
-    let all = subst All (sym c.self.view_is) (c.takes_all-all.ensures e) in
-    ap (λ (ls : List Lock). is_written ls i) c.locks-locks.ensures.locks ∙ all i (omega (arith, below, c.self.invariant.lists.values_fit))
+    let All : VaultView → Type 0 = λ v. AreAllButFirst (length (keys (tree_of v.plan))) (locks (tree_of v.plan) n) in
+    λ e.
+    let all : AreAllButFirst (length (keys (tree_of c.self.inside.plan.now))) (locks (tree_of c.self.inside.plan.now) n) = subst All (sym c.self.view_is) (c.takes_all-all.ensures e) in
+    let taken = subst (AreAllButFirst (length (keys (tree_of c.self.inside.plan.now)))) (sym c.locks-locks.ensures.locks) all in
+    subst (λ (m : ℕ). AreAllButFirst m c.locks-locks.result.now) (sym c.self.invariant.lists.values_fit) taken

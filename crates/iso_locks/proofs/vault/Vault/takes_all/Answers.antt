@@ -1,10 +1,9 @@
-use Rattle.std.proofs.Common.{◌≡◌, ◌<◌, List, length, true, ap, sym, subst, ◌∙◌}
+use Rattle.std.proofs.Common.{◌<◌, length, sym, subst}
 use Rattle.iso_plan.specs.KeyTable.{keys}
 use Rattle.iso_plan.specs.Locks.{locks}
 use Rattle.iso_plan.specs.RowView.{tree_of}
-use Rattle.iso_plan.specs.declared.lock.Lock.{Lock}
 use Rattle.iso_locks.proofs.MoveLemmas.{all-written}
-use Rattle.iso_locks.specs.Moves.{AreAllWritten, is_written}
+use Rattle.iso_locks.specs.Moves.{AreAllButFirst, BeginAtSecond}
 use Rattle.iso_locks.specs.Vaults.{VaultView}
 use Rattle.iso_locks.proofs.vault.Vault.takes_all.Goals as goal
 
@@ -13,7 +12,7 @@ returns c =
     let tree = tree_of c.self.inside.plan.now in
     let n = c.args.node in
     let node : n < length tree = subst (λ (v : VaultView). n < length v.plan.rows) (sym c.self.view_is) c.requires in
-    let All : VaultView → Type 0 = λ v. AreAllWritten (length (keys (tree_of v.plan))) (locks (tree_of v.plan) n) in
+    let All : VaultView → Type 0 = λ v. AreAllButFirst (length (keys (tree_of v.plan))) (locks (tree_of v.plan) n) in
     λ e.
-    let first : is_written (locks tree n) 0 ≡ true = ap (λ (ls : List Lock). is_written ls 0) (sym c.locks.ensures.locks) ∙ c.write_first.ensures e in
-    subst All c.self.view_is (all-written tree n node (c.self.invariant.one_group c.if-not-self.false) first)
+    let begins : BeginAtSecond (locks tree n) = subst BeginAtSecond c.locks.ensures.locks (c.begin_at_second.ensures e) in
+    subst All c.self.view_is (all-written tree n node (c.self.invariant.one_group c.if-not-self.false) begins)
