@@ -47,8 +47,8 @@ impl<'a> OwnHead<'a> {
         ensures { result.now ≡ marks_on (lent_head self.entry) }
     {
         match self {
-            OwnHead::Class(class) => &class.marks,
-            OwnHead::Test(test) => &test.marks,
+            OwnHead::Class(class) => class.marks.as_slice(),
+            OwnHead::Test(test) => test.marks.as_slice(),
         }
     }
 

@@ -66,7 +66,7 @@ fn add_all<'a>(keys: &mut BTreeSet<&'a str>, classes: &'a [Class]) -> Result<(),
 /// the innermost one.
 #[cycle(keys)]
 fn add_class<'a>(keys: &mut BTreeSet<&'a str>, class: &'a Class) -> Result<(), AllocError> {
-    add_marks(keys, &class.head.marks)?;
+    add_marks(keys, class.head.marks.as_slice())?;
     'members: for member in &class.members {
         add_member(keys, member)?;
     }
@@ -78,7 +78,7 @@ fn add_class<'a>(keys: &mut BTreeSet<&'a str>, class: &'a Class) -> Result<(), A
 fn add_member<'a>(keys: &mut BTreeSet<&'a str>, member: &'a Member) -> Result<(), AllocError> {
     match member {
         Member::Class(class) => add_class(keys, class),
-        Member::Test(test) => add_marks(keys, &test.head.marks),
+        Member::Test(test) => add_marks(keys, test.head.marks.as_slice()),
     }
 }
 

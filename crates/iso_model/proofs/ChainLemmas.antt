@@ -20,7 +20,7 @@ marks_of-append (c ∷ cs) ds = ap (λ (ms : List Mark). c.marks ++ ms) (marks_o
 
 -- the outermost class's marks may be taken with what is known already
 pub marks_of-outermost : (c : Arc ClassHead Global) (cs : List (Arc ClassHead Global)) (k : List ℕ) (known : Option Access)
-    → strongest (rights_of (marks_of (innermost_first (c ∷ cs))) k) known ≡ strongest (rights_of (marks_of (innermost_first cs)) k) (strongest (rights_of (arc_value c).marks.items k) known)
+    → strongest (rights_of (marks_of (innermost_first (c ∷ cs))) k) known ≡ strongest (rights_of (marks_of (innermost_first cs)) k) (strongest (rights_of (arc_value c).marks k) known)
 marks_of-outermost c cs k known =
     let h : C.ClassHead = class_head_of (arc_value c) in
     ap (λ (ds : List C.ClassHead). strongest (rights_of (marks_of ds) k) known) (reverse-append (h ∷ []) (map (λ d. class_head_of (arc_value d)) cs))
@@ -30,7 +30,7 @@ marks_of-outermost c cs k known =
 
 -- one class of a list, outermost first
 pub marks_of-next : (cs : List (Arc ClassHead Global)) (i : ℕ) (c : Arc ClassHead Global) (k : List ℕ) (known : Option Access) → i < length cs → c ≡ slice_index_or cs i c
-    → strongest (rights_of (marks_of (innermost_first (drop (i + 1) cs))) k) (strongest (rights_of (arc_value c).marks.items k) known) ≡ strongest
+    → strongest (rights_of (marks_of (innermost_first (drop (i + 1) cs))) k) (strongest (rights_of (arc_value c).marks k) known) ≡ strongest
     (rights_of (marks_of (innermost_first (drop i cs))) k) known
 marks_of-next cs i c k known h e =
     let next : drop i cs ≡ c ∷ drop (i + 1) cs = rw add-one (drop-cons cs i c h ∙ ap (λ (d : Arc ClassHead Global). d ∷ drop (suc i) cs) (sym e)) in

@@ -28,6 +28,7 @@ pub mod Resources
 pub mod Rights
 pub mod Scripts
 pub mod ScriptView
+pub mod SharedLists
 pub mod Statements
 pub mod Steps
 pub mod Syntax

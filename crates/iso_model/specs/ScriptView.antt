@@ -30,14 +30,14 @@ class_contents_of c =
     }
 
 abbrev pub class_head_of : ClassHead → C.ClassHead
-class_head_of h = record (class_contents_of (arc_value h.contents)) { marks = h.marks.items }
+class_head_of h = record (class_contents_of (arc_value h.contents)) { marks = h.marks }
 
 -- what the contents of a test stand for, a head without marks; and its head
 abbrev pub test_contents_of : TestContents → C.TestHead
 test_contents_of c = record { marks = []; disabled = c.disabled; body = block_of c.body.items }
 
 abbrev pub test_head_of : TestHead → C.TestHead
-test_head_of h = record (test_contents_of (arc_value h.contents)) { marks = h.marks.items }
+test_head_of h = record (test_contents_of (arc_value h.contents)) { marks = h.marks }
 
 -- what a test stands for
 abbrev pub test_of : Test → S.Test

@@ -4,6 +4,7 @@ ghost use Rattle.iso_model.specs.Targets.{for_itself, is_target};
 use crate::access::Access;
 use crate::data::Data;
 use crate::key::Key;
+use crate::shared_list::SharedList;
 use crate::text::Text;
 use crate::tree::Stmt;
 use std::alloc::AllocError;
@@ -86,7 +87,7 @@ pub struct ClassContents {
 /// What a class gives to the tests under it. Heads with other marks share its contents.
 #[derive(Drop)]
 pub struct ClassHead {
-    pub marks: Vec<Mark>,
+    pub marks: SharedList<Mark>,
     pub contents: Arc<ClassContents>,
 }
 
@@ -101,6 +102,6 @@ pub struct TestContents {
 /// What a test itself has. Heads with other marks share its contents.
 #[derive(Drop)]
 pub struct TestHead {
-    pub marks: Vec<Mark>,
+    pub marks: SharedList<Mark>,
     pub contents: Arc<TestContents>,
 }

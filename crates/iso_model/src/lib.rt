@@ -30,6 +30,7 @@ pub mod resource_key;
 pub mod rights;
 pub mod same;
 pub mod script;
+pub mod shared_list;
 pub mod shared_names;
 mod short_text;
 pub mod text;

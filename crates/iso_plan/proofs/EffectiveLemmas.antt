@@ -1,5 +1,5 @@
 -- Nodes that get their effective marks one after another.
-use Rattle.std.proofs.Common.{◌≡◌, ℕ, zero, suc, ◌+◌, ◌<◌, ◌≤◌, List, [], ◌∷◌, ◌++◌, length, map, filter, set, Bool, true, false, cond, nat_lt, ◌==◌, refl, sym, subst, ap, ◌∙◌, arith}
+use Rattle.std.proofs.Common.{◌≡◌, ℕ, zero, suc, ◌+◌, ◌-◌, ◌<◌, ◌≤◌, List, [], ◌∷◌, ◌++◌, length, map, filter, set, Bool, true, false, cond, nat_lt, ◌==◌, refl, sym, subst, ap, ap₂, ◌∙◌, arith}
 use Rattle.std.proofs.lemmas.Bool.Decides.{nat_tests}
 use Rattle.std.proofs.lemmas.List.{get_or-map, get_or-set_same, get_or-set_other, get_or_default, length-map, length-set, same_lists, set-get_or}
 use Rattle.iso_model.specs.Targets.{effective, for_itself, is_target, marks_for}
@@ -7,7 +7,8 @@ use Rattle.iso_model.specs.declared.heads.Mark.{Mark}
 use Rattle.iso_model.specs.declared.heads.Target.{Target}
 use Rattle.iso_plan.proofs.PathLemmas.{eq_from, eq_same}
 use Rattle.iso_plan.specs.KeyTable.{kind_marks}
-use Rattle.iso_plan.specs.Paths.{StandEarlier, parent, row_at}
+use Rattle.iso_plan.specs.Paths.{StandEarlier, is_test, parent, row_at}
+use Rattle.iso_plan.specs.Repeated.{effective_at}
 use Rattle.iso_plan.specs.Tree.{Kind, root, class_node, test_node, Row, root_row, effective_row, with_marks}
 
 -- of one list of marks after another
@@ -86,6 +87,27 @@ bare-effective old new n p s less none bare =
     let r = row_at new n in
     let kind : r.kind ≡ with_marks (effective (row_at new r.parent).written r.written) r.kind = sym (ap (λ (ms : List Mark). with_marks ms r.kind) none ∙ without_marks r.kind bare) in
     subst (λ (rows : List Row). IsPartly old rows (n + 1)) (set-get_or new n root_row) (next-effective old new n r.kind r p s less refl kind)
+
+test-marks : (ms : List Mark) (k : Kind) → is_test (with_marks ms k) ≡ true → kind_marks (with_marks ms k) ≡ ms
+test-marks ms root e = absurd (cc)
+test-marks ms (class_node isolated head) e = refl
+test-marks ms (test_node head) e = refl
+
+-- a test before these has its effective marks
+pub before-effective : (old new : List Row) (n : ℕ) → IsPartly old new n → StandEarlier old → 0 < n → n < length old → is_test (row_at new (n - 1)).kind ≡ true
+    → kind_marks (row_at new (n - 1)).kind ≡ effective_at new (n - 1)
+before-effective old new n p s above less t =
+    let m : ℕ = n - 1 in
+    let earlier : m < n = omega arith in
+    let within : m < length old = omega arith in
+    let done : row_at new m ≡ effective_row old (row_at old m) = p.done m earlier within in
+    let kind : (row_at new m).kind ≡ with_marks (effective_at old m) (row_at old m).kind = ap (λ (r : Row). r.kind) done in
+    let test : is_test (with_marks (effective_at old m) (row_at old m).kind) ≡ true = sym (ap is_test kind) ∙ t in
+    let up : parent new m ≡ parent old m = ap (λ (r : Row). r.parent) done in
+    let class : (row_at new (parent new m)).written ≡ (row_at old (parent old m)).written =
+    ap (λ (j : ℕ). (row_at new j).written) up ∙ written-kept old new n (parent old m) p (parent-within old m s within) in
+    let own : (row_at new m).written ≡ (row_at old m).written = written-kept old new n m p within in
+    ap kind_marks kind ∙ test-marks (effective_at old m) (row_at old m).kind test ∙ sym (ap₂ effective class own)
 
 -- all nodes
 pub all-effective : (old new : List Row) (n : ℕ) → IsPartly old new n → length old ≤ n → new ≡ map (effective_row old) old

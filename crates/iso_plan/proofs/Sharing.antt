@@ -8,6 +8,7 @@ use Rattle.iso_model.proofs.key_map.KeyMap.TheSendSync as key_map
 use Rattle.iso_model.proofs.heads.Variable.TheSendSync as variables
 use Rattle.iso_model.proofs.rights.Rights.TheSendSync as rights
 use Rattle.iso_model.proofs.script.Mode.TheSendSync as mode
+use Rattle.iso_model.proofs.shared_list.SharedList.TheSendSync as shared_list
 use Rattle.iso_model.proofs.text.Text.TheSendSync as text
 use Rattle.iso_model.proofs.tree.Comparison.TheSendSync as comparison
 use Rattle.iso_model.proofs.tree.Expr.TheLaws.TheKnot as exprs
@@ -25,7 +26,7 @@ use Rattle.iso_model.specs.contracts.heads.TestHead as test
 use Rattle.iso_model.specs.contracts.tree.Stmt as stmt
 use Rattle.iso_desk.proofs.marks.Marks.TheSendSync as desk_marks
 use Rattle.iso_plan.proofs.held_nodes.KeyUse.TheSendSync as key_use
-use Rattle.iso_plan.proofs.shared_locks.SharedLocks.TheSendSync as lock
+use Rattle.iso_plan.proofs.lock.Lock.TheSendSync as lock
 use Rattle.std.specs.contracts.option.Option as option
 use denote.Ref.{NamedLft}
 use denote.RattleType.{RattleType}
@@ -77,7 +78,10 @@ ruleset parts = (
   text.the_send,
   text.the_sync,
   tree_text.the_sync,
+  lock.the_send,
   lock.the_sync,
+  shared_list.the_send,
+  shared_list.the_sync,
   settings.the_sync,
   crosses,
   sendable,

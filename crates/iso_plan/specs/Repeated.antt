@@ -3,8 +3,14 @@
 -- tests that repeat the one before them: Both are tests of one class, with the same marks written
 -- on them (`Repeats`). They take the same keys, so that the later one shares the other's locks.
 use Rattle.std.specs.Prelude.{◌≡◌, ℕ, ◌<◌, ◌-◌, List, true}
+use Rattle.iso_model.specs.Targets.{effective}
+use Rattle.iso_model.specs.declared.heads.Mark.{Mark}
 use Rattle.iso_plan.specs.Paths.{is_test, parent, row_at}
 use Rattle.iso_plan.specs.Tree.{Row}
+
+-- the effective marks of a node, by what is written on it and on its parent
+abbrev pub effective_at : List Row → ℕ → List Mark
+effective_at rows n = effective (row_at rows (parent rows n)).written (row_at rows n).written
 
 -- the node and the one before it are tests of one class, with the same marks written on them
 pub record Repeats (tree : List Row) (n : ℕ) : Type 0 where

@@ -1,20 +1,11 @@
 -- Tables of the accesses with which nodes take keys, by key number, while they are gathered.
 use Rattle.std.specs.Prelude.{ℕ, List, [], ◌∷◌, Option, Some, None, ◌||◌, cond, replicate}
-use Rattle.std.specs.Arc.{arc_value}
-use Rattle.std.specs.declared.alloc.Global.{Global}
-use Rattle.std.specs.declared.sync.Arc.{Arc}
-use Rattle.std.specs.declared.vec.Vec.{Vec}
 use Rattle.iso_model.specs.declared.access.Access.{Access}
 use Rattle.iso_model.specs.declared.access.Access.TheVariants.{Read, Write}
 use Rattle.iso_plan.specs.Locks.{holds_isolated, is_locking}
 use Rattle.iso_plan.specs.Paths.{is_top}
 use Rattle.iso_plan.specs.Tree.{Row}
 use Rattle.iso_plan.specs.declared.lock.Lock.{Lock}
-
--- what a shared list of locks stands for, where there is one
-abbrev pub locks_in : Option (Arc (Vec Lock Global) Global) → List Lock
-locks_in None = []
-locks_in (Some locks) = (arc_value locks).items
 
 -- a table whose first key, if it has one, is taken so
 abbrev pub with_first : Option Access → List (Option Access) → List (Option Access)

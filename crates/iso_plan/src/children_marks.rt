@@ -1,12 +1,16 @@
 //! The effective marks of nodes (JUnit 5, `ResourceLockTarget`).
-ghost use Rattle.std.specs.Prelude.{◌≡◌, ◌++◌, ◌∷◌, [], IfOk, OnOk, map};
+ghost use Rattle.std.specs.Prelude.{◌≡◌, ◌<◌, ◌-◌, ◌++◌, ◌∷◌, [], IfOk, OnOk, length, map, true};
 ghost use Rattle.iso_model.specs.Targets.{effective, marks_for};
-ghost use Rattle.iso_plan.specs.Paths.{StandEarlier};
+ghost use Rattle.iso_plan.specs.KeyTable.{kind_marks};
+ghost use Rattle.iso_plan.specs.Paths.{StandEarlier, is_test, parent, row_at};
+ghost use Rattle.iso_plan.specs.Repeated.{effective_at};
 ghost use Rattle.iso_plan.specs.RowView.{kind_of, nodes_in};
 ghost use Rattle.iso_plan.specs.Tree.{effective_row, with_marks};
 
+use crate::repeated::repeats;
 use crate::row::{Kind, Row};
 use iso_model::heads::{ClassHead, Mark, Target, TestHead};
+use iso_model::shared_list::SharedList;
 use std::alloc::{AllocError, Global};
 use std::sync::Arc;
 
@@ -18,8 +22,7 @@ pub(crate) fn make_effective(alloc: Global, rows: &mut Vec<Row>) -> Result<(), A
         ≡ map (effective_row (nodes_in rows.old.items)) (nodes_in rows.old.items)) }
 {
     'nodes: for n in 0..rows.len() {
-        let above = rows[n].parent as usize;
-        let marks = effective(alloc, rows[above].written(), rows[n].written())?;
+        let marks = marks_at(alloc, rows.as_slice(), n)?;
         if marks.is_empty() && rows[n].kind.marks().is_empty() {
             continue;
         }
@@ -29,9 +32,29 @@ pub(crate) fn make_effective(alloc: Global, rows: &mut Vec<Row>) -> Result<(), A
     Ok(())
 }
 
+/// The effective marks of node n, where the node before it has its own, if that is a test. A test
+/// that repeats the node before it shares that one's.
+fn marks_at(alloc: Global, rows: &[Row], n: usize) -> Result<SharedList<Mark>, AllocError>
+    requires within { n < length rows.now }
+    requires class { parent (nodes_in rows.now) n < length rows.now }
+    requires before { 0 < n → is_test (row_at (nodes_in rows.now) (n - 1)).kind ≡ true
+        → kind_marks (row_at (nodes_in rows.now) (n - 1)).kind
+        ≡ effective_at (nodes_in rows.now) (n - 1) }
+    ensures { IfOk result (λ m. m ≡ effective_at (nodes_in rows.now) n) }
+{
+    if repeats(rows, n)
+        && let Kind::Test { head } = &rows[n - 1].kind
+    {
+        return head.marks.share();
+    }
+    let above = rows[n].parent as usize;
+    let marks = effective(alloc, rows[above].written(), rows[n].written())?;
+    SharedList::new(alloc, marks)
+}
+
 /// A node of this kind with these marks.
-fn with_marks(alloc: Global, kind: &Kind, marks: Vec<Mark>) -> Result<Kind, AllocError>
-    ensures { IfOk result (λ k. kind_of k ≡ with_marks marks.items (kind_of kind.now)) }
+fn with_marks(alloc: Global, kind: &Kind, marks: SharedList<Mark>) -> Result<Kind, AllocError>
+    ensures { IfOk result (λ k. kind_of k ≡ with_marks marks (kind_of kind.now)) }
 {
     match kind {
         Kind::Root => Ok(Kind::Root),

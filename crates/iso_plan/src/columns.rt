@@ -12,17 +12,18 @@ use crate::child_lists::children;
 use crate::fault::PlanError;
 use crate::isolated::isolated;
 use crate::keys::{copied, number_keys, numbers};
+use crate::lock::Lock;
 use crate::locking::locking_nodes;
 use crate::locks::locks;
 use crate::modes::modes;
 use crate::rights::rights;
 use crate::row::Row;
-use crate::shared_locks::SharedLocks;
 use indexmap::IndexSet;
 use iso_model::heads::ClassHead;
 use iso_model::key_map::KeyMap;
 use iso_model::rights::Rights;
 use iso_model::script::Mode;
+use iso_model::shared_list::SharedList;
 use iso_model::text::Text;
 use iso_settings::settings::Settings;
 use std::alloc::{AllocError, Global};
@@ -40,7 +41,7 @@ pub(crate) struct Chained {
 #[derive(Drop)]
 pub(crate) struct Locked {
     pub locking: Vec<Option<u32>>,
-    pub locks: Vec<SharedLocks>,
+    pub locks: Vec<SharedList<Lock>>,
 }
 
 /// The keys of a plan by number, with what its nodes lock of them, and their modes.

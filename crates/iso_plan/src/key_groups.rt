@@ -5,8 +5,8 @@ ghost use Rattle.iso_plan.specs.KeyGroups.{AreGroups, AreOrdered, IsAsBefore, Is
 ghost use Rattle.iso_plan.specs.Paths.{column};
 
 use crate::lock::Lock;
-use crate::shared_locks::SharedLocks;
 use iso_model::access::Access;
+use iso_model::shared_list::SharedList;
 use std::alloc::{AllocError, Global};
 
 /// The leads of the keys of a plan, by their numbers; and the locks of each node on leads, where
@@ -14,13 +14,13 @@ use std::alloc::{AllocError, Global};
 #[derive(Drop)]
 pub(crate) struct Groups {
     pub leads: Vec<u32>,
-    pub lists: Option<Vec<SharedLocks>>,
+    pub lists: Option<Vec<SharedList<Lock>>>,
 }
 
 /// The groups of so many keys that nodes with these locks take alike.
 pub(crate) fn group_keys(
     alloc: Global,
-    locks: &[SharedLocks],
+    locks: &[SharedList<Lock>],
     keys: usize,
 ) -> Result<Groups, AllocError>
     requires few { keys ≤ KEYS + 1 }
@@ -54,15 +54,15 @@ fn are_own(leads: &[u32]) -> bool
 /// The locks of each node that are on leads.
 fn on_leads(
     alloc: Global,
-    locks: &[SharedLocks],
+    locks: &[SharedList<Lock>],
     leads: &[u32],
-) -> Result<Vec<SharedLocks>, AllocError>
+) -> Result<Vec<SharedList<Lock>>, AllocError>
     ensures { IfOk result (λ v. v.items ≡ map (on_own leads.now) locks.now) }
 {
-    let mut lists: Vec<SharedLocks> = Vec::with_capacity(alloc, locks.len())?;
+    let mut lists: Vec<SharedList<Lock>> = Vec::with_capacity(alloc, locks.len())?;
     'nodes: for list in locks {
         let own = on_own(alloc, list.as_slice(), leads)?;
-        lists.push(SharedLocks::new(alloc, own)?)?;
+        lists.push(SharedList::new(alloc, own)?)?;
     }
     Ok(lists)
 }
@@ -91,7 +91,7 @@ fn lead_of(leads: &[u32], key: u32) -> u32
 }
 
 /// The lead of each key, by its number, where the nodes of a plan take these locks.
-fn leads(alloc: Global, locks: &[SharedLocks], keys: usize) -> Result<Vec<u32>, AllocError>
+fn leads(alloc: Global, locks: &[SharedList<Lock>], keys: usize) -> Result<Vec<u32>, AllocError>
     requires few { keys ≤ KEYS + 1 }
     requires ordered { (n : ℕ) → n < length locks.now
         → AreOrdered keys (slice_index_or locks.now n []) }
@@ -112,7 +112,7 @@ fn leads(alloc: Global, locks: &[SharedLocks], keys: usize) -> Result<Vec<u32>, 
 
 /// Whether a node splits no group, as far as its locks tell at a glance: it takes none, or those of
 /// the node before it.
-fn is_idle(locks: &[SharedLocks], n: usize) -> bool
+fn is_idle(locks: &[SharedList<Lock>], n: usize) -> bool
     requires { n < length locks.now }
     ensures { result ≡ true → IsIdle locks.now n }
 {
@@ -124,7 +124,7 @@ fn is_idle(locks: &[SharedLocks], n: usize) -> bool
 }
 
 /// Whether a node takes the locks of the node before it.
-fn is_as_before(locks: &[SharedLocks], n: usize) -> bool
+fn is_as_before(locks: &[SharedList<Lock>], n: usize) -> bool
     requires { n < length locks.now }
     ensures { result ≡ true → IsAsBefore locks.now n }
 {

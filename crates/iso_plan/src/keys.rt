@@ -83,8 +83,8 @@ impl Kind {
     {
         match self {
             Kind::Root => &[],
-            Kind::Class { head, .. } => &head.marks,
-            Kind::Test { head } => &head.marks,
+            Kind::Class { head, .. } => head.marks.as_slice(),
+            Kind::Test { head } => head.marks.as_slice(),
         }
     }
 }

@@ -30,5 +30,4 @@ mod repeated;
 mod rights;
 pub mod row;
 mod same;
-mod shared_locks;
 mod tree;

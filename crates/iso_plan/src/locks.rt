@@ -15,10 +15,10 @@ ghost use Rattle.iso_plan.specs.declared.lock.Lock.{Lock};
 use crate::lock::Lock;
 use crate::repeated::repeated;
 use crate::row::Row;
-use crate::shared_locks::SharedLocks;
 use indexmap::IndexSet;
 use iso_model::access::Access;
 use iso_model::heads::Mark;
+use iso_model::shared_list::SharedList;
 use std::alloc::{AllocError, Global};
 
 /// The locks of each node, by key number.
@@ -28,7 +28,7 @@ pub(crate) fn locks(
     key_table: &IndexSet<&str>,
     isolated: &[bool],
     locking: &[Option<u32>],
-) -> Result<Vec<SharedLocks>, AllocError>
+) -> Result<Vec<SharedList<Lock>>, AllocError>
     requires tree { IsTree (nodes_in rows.now) }
     requires fits { length rows.now ≤ NODES }
     requires keys { map (λ k. k.now) key_table.now.keys ≡ keys (nodes_in rows.now) }
@@ -225,7 +225,7 @@ fn listed_tables(
     alloc: Global,
     tables: &[Vec<Option<Access>>],
     repeated: &[bool],
-) -> Result<Vec<SharedLocks>, AllocError>
+) -> Result<Vec<SharedList<Lock>>, AllocError>
     requires fits { (n : ℕ) → n < length tables.now
         → length (slice_index_or (map (λ t. t.items) tables.now) n []) ≤ KEYS + 1 }
     requires each { length repeated.now ≡ length tables.now }
@@ -237,12 +237,12 @@ fn listed_tables(
         → locks (n - 1) ≡ locks n)
         → IfOk result (λ v. v.items ≡ column locks (length tables.now)) }
 {
-    let mut locks: Vec<SharedLocks> = Vec::with_capacity(alloc, tables.len())?;
+    let mut locks: Vec<SharedList<Lock>> = Vec::with_capacity(alloc, tables.len())?;
     'tables: for n in 0..tables.len() {
         let own = if repeated[n] {
             locks[n - 1].share()?
         } else {
-            SharedLocks::new(alloc, listed(alloc, &tables[n])?)?
+            SharedList::new(alloc, listed(alloc, &tables[n])?)?
         };
         locks.push(own)?;
     }

@@ -7,10 +7,10 @@ ghost use Rattle.iso_plan.specs.Modes.{mode, nearest_mode};
 ghost use Rattle.iso_plan.specs.Paths.{IsTree, column, path};
 ghost use Rattle.iso_plan.specs.RowView.{nodes_in};
 
-use crate::lock::takes_write;
+use crate::lock::{Lock, takes_write};
 use crate::row::Row;
-use crate::shared_locks::SharedLocks;
 use iso_model::script::Mode;
+use iso_model::shared_list::SharedList;
 use iso_settings::settings::Settings;
 use std::alloc::{AllocError, Global};
 
@@ -20,7 +20,7 @@ pub(crate) fn modes(
     alloc: Global,
     rows: &[Row],
     settings: Settings,
-    taken: &[SharedLocks],
+    taken: &[SharedList<Lock>],
 ) -> Result<Vec<Mode>, AllocError>
     requires tree { IsTree (nodes_in rows.now) }
     requires taken { taken.now
@@ -76,7 +76,7 @@ fn nearest_modes(alloc: Global, rows: &[Row]) -> Result<Vec<Option<Mode>>, Alloc
 }
 
 /// For each node whether it, or one of its enclosing classes, takes a key for READ_WRITE.
-fn writing(alloc: Global, rows: &[Row], taken: &[SharedLocks]) -> Result<Vec<bool>, AllocError>
+fn writing(alloc: Global, rows: &[Row], taken: &[SharedList<Lock>]) -> Result<Vec<bool>, AllocError>
     requires tree { IsTree (nodes_in rows.now) }
     requires taken { taken.now
         ≡ column (locks (nodes_in rows.now)) (length rows.now) }

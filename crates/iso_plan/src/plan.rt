@@ -31,13 +31,13 @@ use crate::nodes::kept_rows;
 use crate::paths::is_path_of;
 use crate::row::{Kind, Row};
 use crate::same::same_rows;
-use crate::shared_locks::SharedLocks;
 use iso_model::chain::Chain;
 use iso_model::heads::{ClassHead, Mark};
 use iso_model::key_map::KeyMap;
 use iso_model::resource_key::ResourceKey;
 use iso_model::rights::Rights;
 use iso_model::script::{Mode, Script};
+use iso_model::shared_list::SharedList;
 use iso_model::text::Text;
 use iso_settings::settings::Settings;
 use std::alloc::Global;
@@ -57,13 +57,13 @@ pub struct Plan {
     keys: Vec<Text>,
     numbers: KeyMap<usize>,
     locking: Vec<Option<u32>>,
-    locks: Vec<SharedLocks>,
+    locks: Vec<SharedList<Lock>>,
     modes: Vec<Mode>,
     /// How many classes the longest of the chains has: each tray asks for it.
     depth: usize,
     leads: Vec<u32>,
     /// None where each key is the lead of its group: then they are all locks.
-    lead_locks: Option<Vec<SharedLocks>>,
+    lead_locks: Option<Vec<SharedList<Lock>>>,
 }
 
 impl Model for Plan {

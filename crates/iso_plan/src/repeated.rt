@@ -23,7 +23,7 @@ pub(crate) fn repeated(alloc: Global, rows: &[Row]) -> Result<Vec<bool>, AllocEr
 }
 
 /// Whether node n repeats the one before it.
-fn repeats(rows: &[Row], n: usize) -> bool
+pub(crate) fn repeats(rows: &[Row], n: usize) -> bool
     requires { n < length rows.now }
     ensures { IsTrue result → Repeats (nodes_in rows.now) n }
 {

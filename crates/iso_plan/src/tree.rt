@@ -212,7 +212,11 @@ fn test_row(alloc: Global, parent: u32, test: &Test) -> Result<Row, AllocError>
         parent,
         mode: test.mode,
         name: TreeText::copied(alloc, test.name.as_str())?,
-        extras: extras(alloc, &test.head.marks, copy(alloc, &test.display)?)?,
+        extras: extras(
+            alloc,
+            test.head.marks.as_slice(),
+            copy(alloc, &test.display)?,
+        )?,
         kind: Kind::Test {
             head: test.head.clone()?,
         },
@@ -227,7 +231,11 @@ fn class_row(alloc: Global, parent: u32, class: &Class) -> Result<Row, AllocErro
         parent,
         mode: class.mode,
         name: TreeText::copied(alloc, class.name.as_str())?,
-        extras: extras(alloc, &class.head.marks, copy(alloc, &class.display)?)?,
+        extras: extras(
+            alloc,
+            class.head.marks.as_slice(),
+            copy(alloc, &class.display)?,
+        )?,
         kind: Kind::Class {
             isolated: class.isolated,
             head: class.head.clone()?,
@@ -245,7 +253,7 @@ fn top_row(alloc: Global, team: &Text, class: &Class) -> Result<Row, AllocError>
         name: TreeText::copied(alloc, in_team(alloc, team, &class.name)?.as_str())?,
         extras: extras(
             alloc,
-            &class.head.marks,
+            class.head.marks.as_slice(),
             display_in_team(alloc, team, &class.display)?,
         )?,
         kind: Kind::Class {

@@ -8,6 +8,7 @@ ghost use Rattle.iso_script_statements.specs.Statements.{body_of};
 
 use crate::block::{Block, Blocks};
 use iso_model::heads::{ClassContents, ClassHead, Mark, Variable};
+use iso_model::shared_list::SharedList;
 use iso_model::text::Text;
 use iso_model::tree::Stmt;
 use std::alloc::{AllocError, Global};
@@ -37,7 +38,7 @@ pub(crate) fn class_head(
         after_each: statements(alloc, blocks.after_each),
     };
     Ok(ClassHead {
-        marks,
+        marks: SharedList::new(alloc, marks)?,
         contents: Arc::new(alloc, contents)?,
     })
 }

@@ -10,6 +10,7 @@ use crate::place::{BlockLines, NodePlace, Places};
 use crate::title::{read_display, wanted_after};
 use iso_model::heads::{TestContents, TestHead};
 use iso_model::script::Test;
+use iso_model::shared_list::SharedList;
 use iso_model::text::Text;
 use iso_script_lexer::token::Position;
 use iso_script_statements::fault::ScriptError;
@@ -40,7 +41,7 @@ pub(crate) fn read_test(
         body,
     };
     let head = TestHead {
-        marks: marks.keys,
+        marks: SharedList::new(parser.alloc, marks.keys)?,
         contents: Arc::new(parser.alloc, contents)?,
     };
     let head = Arc::new(parser.alloc, head)?;

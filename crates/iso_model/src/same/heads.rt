@@ -107,12 +107,14 @@ fn same_test_contents(a: &TestContents, b: &TestContents) -> bool
 pub fn same_class_head(a: &ClassHead, b: &ClassHead) -> bool
     ensures { IsTrue result ↔ (class_head_of a.now ≡ class_head_of b.now) }
 {
-    same_marks(&a.marks, &b.marks) && same_class_contents(&a.contents, &b.contents)
+    same_marks(a.marks.as_slice(), b.marks.as_slice())
+        && same_class_contents(&a.contents, &b.contents)
 }
 
 /// Whether the heads of two tests say the same. Takes no memory, and goes over both once at most.
 pub fn same_test_head(a: &TestHead, b: &TestHead) -> bool
     ensures { IsTrue result ↔ (test_head_of a.now ≡ test_head_of b.now) }
 {
-    same_marks(&a.marks, &b.marks) && same_test_contents(&a.contents, &b.contents)
+    same_marks(a.marks.as_slice(), b.marks.as_slice())
+        && same_test_contents(&a.contents, &b.contents)
 }

@@ -45,7 +45,7 @@ fn is_number(variable: Option<&Variable>, name: &str, number: i64) -> bool {
 fn is_head_of_cart(head: &ClassHead) -> bool {
     let contents = &head.contents;
     is_marked(
-        &head.marks,
+        head.marks.as_slice(),
         &[
             (Access::Read, Target::Itself, "a"),
             (Access::Write, Target::Itself, "b"),

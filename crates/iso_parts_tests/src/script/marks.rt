@@ -50,7 +50,7 @@ fn is_outer(class: &Class) -> bool {
     ];
     class.isolated
         && class.mode == Some(Mode::Concurrent)
-        && is_marked(&class.head.marks, &marks)
+        && is_marked(class.head.marks.as_slice(), &marks)
         && is_reason(&class.head.contents.disabled, Some("closed \"today\""))
 }
 
@@ -66,8 +66,10 @@ fn is_inner(member: &Member) -> bool {
     let Member::Class(class) = member else {
         return false;
     };
-    is_marked(&class.head.marks, &[(Access::Read, Target::Children, "a")])
-        && is_reason(&class.head.contents.disabled, Some("later"))
+    is_marked(
+        class.head.marks.as_slice(),
+        &[(Access::Read, Target::Children, "a")],
+    ) && is_reason(&class.head.contents.disabled, Some("later"))
         && matches!(class.members.get(0), Some(Member::Test(test)) if is_on(test))
 }
 
@@ -77,7 +79,10 @@ fn is_off(member: &Member) -> bool {
         return false;
     };
     test.mode == Some(Mode::SameThread)
-        && is_marked(&test.head.marks, &[(Access::Read, Target::Itself, "k")])
+        && is_marked(
+            test.head.marks.as_slice(),
+            &[(Access::Read, Target::Itself, "k")],
+        )
         && is_reason(&test.head.contents.disabled, Some("no key"))
 }
 

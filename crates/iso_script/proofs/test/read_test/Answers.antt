@@ -12,4 +12,4 @@ returns-in_err-body c =
     rw (p.1, p.2) (λ rest t places h. let b = test_body c.in_ok-display.ensures h in c.in_err-body.ensures b.0 rest b.1)
 
 pub returns : goal.returns
-returns c = rw (c.in_ok-copied.ensures, c.in_ok-head.ensures.ok, c.in_ok-new.ensures.ok) (_, is_bodied _ _ c.in_ok-display.ensures c.peek-line.ensures.next c.in_ok-body.ensures, c.in_ok-add.ensures)
+returns c = rw (c.in_ok-copied.ensures, c.in_ok-head.ensures.ok, c.in_ok-new-2.ensures.ok, c.in_ok-new.ensures) (_, is_bodied _ _ c.in_ok-display.ensures c.peek-line.ensures.next c.in_ok-body.ensures, c.in_ok-add.ensures)
