@@ -266,6 +266,7 @@ left-open b w n e =
       within = in_plan x.nodes n (not-kind (leb x.nodes n) Why.NoNode (first_of (k4 ∷ k5 ∷ k6 ∷ k7 ∷ k8 ∷ [])) (λ k. cc) e3);
       phase = open-phase (s.nodes.status n) (both-left (is_open (s.nodes.status n)) (has_unfinished_child scripts x v s n) e8);
       owner = owner-by (s.owner n) w (not-kind (not (eqb (s.owner n) w)) Why.NotOwner (first_of (k8 ∷ [])) (λ k. cc) e7);
+      worker = in_plan v w (not-kind (leb v w) Why.NoWorker (first_of (k3 ∷ k4 ∷ k5 ∷ k6 ∷ k7 ∷ k8 ∷ [])) (λ k. cc) e2);
     }
 
 for-children : (o : Option Why.Refused) (asked : Type 0) → IsRefusedBy o asked Why.ChildrenLeft → o ≡ Some Why.ChildrenLeft

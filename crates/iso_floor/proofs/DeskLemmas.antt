@@ -67,11 +67,11 @@ module _ (plan : Planned) (start : Start) (workers : ℕ) where
       (λ n c. ap (λ (x : TableView). place_of x.places n) (sym table) ∙ c) d
 
   -- a class that is open in the book is opened up for its owner
-  pub desk-opened : (b : BookView) (s t : SchedulerView) {u : TableView} (n w : ℕ) → t ≡ record s { table = u; owners = set s.owners n (Some w) } → KeepsSizes s t
+  pub desk-opened : (b : BookView) (s t : SchedulerView) {u : TableView} {ps : List ℕ} (n w : ℕ) → t ≡ record s { table = u; owners = set s.owners n (Some w); passed = ps } → KeepsSizes s t
       → (WaitRightly plan.rows s.table.places → WaitRightly plan.rows t.table.places) → IsMoved n Open s.table.places t.table.places
       → (((v : ℕ) → owner_of s.owners n ≡ Some v → v ≡ w) → StandRightly plan s.owners s.table.places → StandRightly plan t.owners t.table.places)
       → ClosesNone s.table.places t.table.places → IsPosted plan n s.table.places → IsOpenFor b n w → IsDesk plan start workers b s → IsDesk plan start workers b t
-  desk-opened b s t {u} n w e sizes lines moves stands closes posted is d =
+  desk-opened b s t {u} {ps} n w e sizes lines moves stands closes posted is d =
       record {
         book = d.book;
         scheduler = sizes (length plan.rows) workers d.scheduler;

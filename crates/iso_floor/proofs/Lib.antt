@@ -22,5 +22,6 @@ pub mod PartyLemmas
 pub mod RightLemmas
 pub mod SchedulerLemmas
 pub mod Sharing
+pub mod SuccessionLemmas
 pub mod TakenLemmas
 pub mod WaitLemmas

@@ -70,11 +70,12 @@ pub record IsEnteredBy (b : BookView) (n w : ℕ) : Type 0 where
   pub phase : phase_in b n ≢ Phases.Waiting
   pub owner : owner_in b n ≡ w
 
--- a class of a book is open there, and a worker's
+-- a class of a book is open there, and a worker's, which is one of the book's
 pub record IsOpenFor (b : BookView) (n w : ℕ) : Type 0 where
   pub within : n < length b.plan.rows
   pub phase : phase_in b n ≡ Phases.Open
   pub owner : owner_in b n ≡ w
+  pub worker : w < b.workers
 
 -- each class that was opened up was entered in the book by who opened it up
 abbrev pub AreOwners : BookView → List (Option ℕ) → Type 0

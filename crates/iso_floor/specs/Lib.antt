@@ -12,5 +12,6 @@ pub mod Parties
 pub mod Postings
 pub mod Schedulers
 pub mod Seats
+pub mod Successions
 pub mod Turning
 pub mod Workers

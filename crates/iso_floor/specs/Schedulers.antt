@@ -10,8 +10,10 @@
 -- node in a line is the party's whose line it is (`IsOwned`, `BelongsTo`, `StandRightly`,
 -- `KeepsStands`), so that a worker may attempt it (`MayTry`); that a step makes no node Closed
 -- (`ClosesNone`), that each CONCURRENT child of an open class was posted (`IsPosted`, `ArePosted`),
--- and that a node comes later (`ComesLater`). No public clause cites it.
--- Also in: `Nexts`, `Parties`, `Postings`.
+-- and that a node comes later (`ComesLater`); that the SAME_THREAD children of open classes come one
+-- after another (`ComeInTurn`), so that one that is Closed comes after one that isn't over
+-- (`ArePreceded`). No public clause cites it.
+-- Also in: `Nexts`, `Parties`, `Postings`, `Successions`.
 use Rattle.std.specs.Prelude.{◌≡◌, ◌≢◌, ◌<◌, ◌==◌, ℕ, List, Option, None, Some, Bool, true, false, cond, is_some, length, not}
 use Rattle.iso_desk.specs.Crews.{HasNothing}
 use Rattle.iso_desk.specs.Places.{StandsIn, TableView, line_in, moved, place_of}
@@ -37,13 +39,15 @@ use Rattle.iso_plan.specs.Tree.{Row}
 use Rattle.iso_plan.specs.declared.lock.Lock.{Lock}
 
 -- the table, what is kept of each worker, which keys held nodes take, how often nodes were posted,
--- and by node the owner of a class that was opened up
+-- and by node the owner of a class that was opened up, and how many of its children were looked at
+-- for the next that its owner alone may enter
 pub record SchedulerView : Type 0 where
   pub table : TableView
   pub members : List Member
   pub keys : KeysView
   pub rounds : ℕ
   pub owners : List (Option ℕ)
+  pub passed : List ℕ
 
 -- a scheduler is of `nodes` nodes and `workers` workers
 pub record IsFor (nodes workers : ℕ) (s : SchedulerView) : Type 0 where

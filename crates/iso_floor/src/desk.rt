@@ -1,5 +1,5 @@
 //! What lies under the lock of a floor.
-ghost use Rattle.std.specs.Prelude.{◌≡◌, ◌<◌, ◌⊎◌, ℕ, IfOk, IfSome, IsTrue, MatchResult, None, OnOk, length, not, true};
+ghost use Rattle.std.specs.Prelude.{◌≡◌, ◌<◌, ◌⊎◌, ℕ, IfOk, IfSome, IsTrue, MatchResult, None, OnOk, false, length, not, true};
 ghost use Rattle.iso_book.specs.Books.{BookView};
 ghost use Rattle.iso_book.specs.Leaves.{IsLeft, IsNotLeft, MayBring, after_leave};
 ghost use Rattle.iso_book.specs.Turns.{GoesOnWith, IsEntered, IsNotTaken, IsShut, IsTaken, MayEnterWith, ReadsStart};
@@ -11,6 +11,7 @@ ghost use Rattle.iso_floor.specs.Grounds.{IsBookOf, IsTrayOf};
 ghost use Rattle.iso_floor.specs.Parties.{MayTry};
 ghost use Rattle.iso_floor.specs.Postings.{ClosesNone, IsPosted};
 ghost use Rattle.iso_floor.specs.Schedulers.{KeepsLines, KeepsPlaces, KeepsSizes, KeepsStands};
+ghost use Rattle.iso_floor.specs.Successions.{ArePreceded};
 ghost use Rattle.iso_locks.specs.Trays.{is_lent};
 ghost use Rattle.iso_plan.specs.HeldNodes.{takes_in};
 ghost use Rattle.iso_plan.specs.KeyGroups.{lead_locks};
@@ -61,11 +62,12 @@ pub(crate) struct Desk<'a, G: Ground> {
 }
 
 impl<'a, G: Ground> Model for Desk<'a, G> {
-    ghost use Rattle.std.specs.Prelude.{◌≡◌, length};
+    ghost use Rattle.std.specs.Prelude.{◌≡◌, ◌<◌, false, length};
     ghost use Rattle.std.specs.Coded.{codes};
     ghost use Rattle.iso_book.specs.Books.{book_code};
     ghost use Rattle.iso_floor.specs.Desks.{DeskView, IsDesk};
     ghost use Rattle.iso_floor.specs.Grounds.{IsTrayOf};
+    ghost use Rattle.iso_floor.specs.Successions.{ComeInTurn};
 
     ghost Value = { DeskView };
 
@@ -75,6 +77,7 @@ impl<'a, G: Ground> Model for Desk<'a, G> {
 
     ghost invariant = { λ d. record {
       desk : IsDesk G.plan G.start G.workers d.book d.scheduler;
+      turns : 0 < G.workers → d.book.stopped ≡ false → ComeInTurn G.plan d.scheduler;
       seats : length d.places.items ≡ G.workers;
       first : IsTrayOf G.plan G.start d.first;
     } };
@@ -265,7 +268,7 @@ impl<'a, G: Ground> Desk<'a, G> {
     }
 
     /// Opens a class up for its owner, that is open in the book, and posts what may run beside
-    /// others in it.
+    /// others in it. It stops the run once 2^63 nodes have been put in lines.
     pub(crate) fn open_up(
         &mut self,
         class: u32,
@@ -273,11 +276,17 @@ impl<'a, G: Ground> Desk<'a, G> {
         owner: &mut Owner,
     ) -> Result<(), AllocError>
         requires { IsOpenFor self.old.book class worker }
-        ensures { self.new.book ≡ self.old.book }
+        ensures opened { OnOk result (self.new.book ≡ self.old.book) }
+        ensures book { self.new.book
+            ≡ record self.old.book { stopped = self.new.book.stopped } }
     {
         let plan = self.book.plan();
         post_children(&mut self.scheduler, plan, class, owner)?;
-        self.scheduler.open(plan, class, worker)
+        let opened = self.scheduler.open(plan, class, worker);
+        if opened.is_err() {
+            self.book.stop();
+        }
+        opened
     }
 
     /// A worker enters a node with a tray, as `Book::enter_own` has it.
@@ -391,11 +400,14 @@ impl<'a, G: Ground> Desk<'a, G> {
     }
 
     /// The history of its book in full is a run, and the book is of the floor's ground; who is named
-    /// in the table, or owns a class, is one of the floor's workers.
+    /// in the table, or owns a class, is one of the floor's workers; and unless the run was stopped,
+    /// a SAME_THREAD child of an open class is Closed only where one before it isn't over.
     pub(crate) fn keep_run(&self)
         ensures run { HasRun self.now.book }
         ensures ground { IsBookOf G.plan G.start G.workers self.now.book }
         ensures workers { 0 < G.workers → AreWorkers G.workers self.now.scheduler }
+        ensures turns { 0 < G.workers → self.now.book.stopped ≡ false
+            → ArePreceded G.plan self.now.scheduler.table.places }
     {
         laws::nodes_are_a_tree(self.book.plan());
         let _history = self.book.history();
@@ -423,6 +435,7 @@ fn post_root(
     ensures places { KeepsPlaces scheduler.old scheduler.new }
     ensures keys { scheduler.new.keys ≡ scheduler.old.keys }
     ensures owners { scheduler.new.owners ≡ scheduler.old.owners }
+    ensures passed { scheduler.new.passed ≡ scheduler.old.passed }
     ensures stands { KeepsStands scheduler.old scheduler.new }
     ensures closes { ClosesNone scheduler.old.table.places scheduler.new.table.places }
     ensures posted { OnOk result (0 < length seats.old.items → 0 < length plan.now.rows

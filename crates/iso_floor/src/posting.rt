@@ -21,6 +21,7 @@ pub(crate) fn post_children(
     ensures places { KeepsPlaces scheduler.old scheduler.new }
     ensures keys { scheduler.new.keys ≡ scheduler.old.keys }
     ensures owners { scheduler.new.owners ≡ scheduler.old.owners }
+    ensures passed { scheduler.new.passed ≡ scheduler.old.passed }
     ensures stands { KeepsStands scheduler.old scheduler.new }
     ensures closes { ClosesNone scheduler.old.table.places scheduler.new.table.places }
     ensures posted { OnOk result (class < length plan.now.rows

@@ -38,19 +38,19 @@ ghost use Rattle.iso_floor.specs.Nexts.{HasNone, IsNextNode};
 ghost use Rattle.iso_floor.specs.Schedulers.{HasNothingIn, IsFor, IsFree, IsMoved, KeepsLines, KeepsPlaces, KeepsSizes, KeepsStands, WaitRightly, is_entered, is_loose, loose_in, next_taken, put, waiting_line};
 ghost use Rattle.iso_floor.specs.Parties.{IsOwned, MayTry, StandRightly, owner_of};
 ghost use Rattle.iso_floor.specs.Postings.{ClosesNone};
+ghost use Rattle.iso_floor.specs.Successions.{ComeInTurn, ComeInTurnBut, HasOwner, is_open, passed_in};
 ghost use Rattle.iso_lifecycle.specs.declared.kind.BodyKind.TheVariants.{BeforeAll};
-ghost use Rattle.iso_model.specs.declared.script.Mode.TheVariants.{SameThread};
+ghost use Rattle.iso_model.specs.declared.script.Mode.TheVariants.{Concurrent};
 ghost use Rattle.iso_plan.specs.HeldNodes.{takes_in};
 ghost use Rattle.iso_plan.specs.KeyGroups.{lead_locks};
 ghost use Rattle.iso_plan.specs.KeyTable.{keys};
 ghost use Rattle.iso_plan.specs.Modes.{mode};
-ghost use Rattle.iso_plan.specs.Paths.{parent};
 ghost use Rattle.iso_plan.specs.Planned.{Planned};
 ghost use Rattle.iso_plan.specs.RowView.{tree_of};
 ghost use Rattle.iso_plan.specs.Tree.{Row};
 
 use crate::keys::{HeldKeys, KEYS};
-use crate::nodes::{children_of, is_concurrent, parent_of};
+use crate::nodes::{children_of, is_concurrent, next_alone, parent_of};
 use crate::offers::line_for;
 use iso_desk::count::recounted;
 use iso_desk::crew::Crew;
@@ -69,22 +69,16 @@ use std::marker::Model;
 /// The worker that owns the root.
 const FIRST_WORKER: u32 = 0;
 
-/// What is kept of a class beside its place: how many of its children aren't over, and how many
-/// were looked at for the next that its owner alone may enter.
-#[derive(Clone, Copy)]
-struct Class {
-    left: usize,
-    passed: usize,
-}
-
 /// Where each node stands, who waits, and which keys are held.
 #[derive(Drop)]
 pub(crate) struct Scheduler {
     table: Table,
     crew: Crew,
     keys: HeldKeys,
-    /// By node.
-    classes: Vec<Class>,
+    /// By node, how many of its children aren't over.
+    left: Vec<usize>,
+    /// By node, how many of its children were looked at for the next that its owner alone may enter.
+    passed: Vec<usize>,
     /// By node, of a class that was opened up, its owner.
     owners: Vec<Option<u32>>,
     /// By node, whether it is a class that was entered in a turn, to be left open.
@@ -111,6 +105,7 @@ impl Model for Scheduler {
       keys = s.keys;
       rounds = s.rounds;
       owners = s.owners.items;
+      passed = s.passed.items;
     } };
 
     ghost invariant = { λ s. record {
@@ -133,6 +128,8 @@ impl Scheduler {
             → (n ≡ 0) × (v ≡ 0)) }
         ensures root { IfOk result (λ s. 0 < length plan.now.rows
             → place_of s.table.places 0 ≢ Closed) }
+        ensures turns { IfOk result (λ s. 0 < length plan.now.rows → 0 < workers
+            → ComeInTurn plan.now s) }
     {
         let mut scheduler = Scheduler::closed(alloc, plan, workers)?;
         scheduler.open(plan, 0, FIRST_WORKER)?;
@@ -150,13 +147,15 @@ impl Scheduler {
         ensures stands { IfOk result (λ s. (p : Planned)
             → StandRightly p s.owners s.table.places) }
         ensures owners { IfOk result (λ s. (n : ℕ) → owner_of s.owners n ≡ None) }
+        ensures turns { IfOk result (λ s. ComeInTurn plan.now s) }
     {
         let nodes = plan.len() as usize;
         Ok(Scheduler {
             table: Table::new(alloc, plan.len(), workers)?,
             crew: Crew::new(alloc, workers)?,
             keys: HeldKeys::new(alloc)?,
-            classes: classes_of(alloc, plan)?,
+            left: left_of(alloc, plan)?,
+            passed: vec![in alloc; 0; nodes]?,
             owners: vec![in alloc; None; nodes]?,
             shared: vec![in alloc; false; nodes]?,
             opening: vec![in alloc; None; workers as usize]?,
@@ -184,6 +183,7 @@ impl Scheduler {
         ensures rest { self.new ≡ record self.old {
           table = self.new.table;
           owners = slice_set self.old.owners class (Some owner);
+          passed = self.new.passed;
         } }
         ensures sizes { KeepsSizes self.old self.new }
         ensures lines { KeepsLines self.old self.new }
@@ -195,6 +195,8 @@ impl Scheduler {
         ensures closes { ClosesNone self.old.table.places self.new.table.places }
         ensures opened { class < length self.old.table.places
             → place_of self.new.table.places class ≢ Closed }
+        ensures turns { OnOk result (class < length plan.now.rows → owner < self.old.table.workers
+            → ComeInTurn plan.now self.old → ComeInTurn plan.now self.new) }
     {
         self.own(class, owner);
         self.put(class, Place::Open);
@@ -366,6 +368,7 @@ impl Scheduler {
         ensures stands { StandRightly plan.now self.old.owners self.old.table.places
             → StandRightly plan.now self.new.owners self.new.table.places }
         ensures closes { ClosesNone self.old.table.places self.new.table.places }
+        ensures turns { OnOk result (ComeInTurn plan.now self.old → ComeInTurn plan.now self.new) }
     {
         match kind {
             BodyKind::BeforeAll => {
@@ -396,7 +399,11 @@ impl Scheduler {
         ensures keys { node < length plan.now.rows → AreRenewed (tree_of plan.now) held.now.held
             (lead_locks (tree_of plan.now) node) self.old.keys self.new.keys }
         ensures past { length plan.now.rows ≤ node → self.new.keys ≡ self.old.keys }
-        ensures rest { self.new ≡ record self.old { table = self.new.table; keys = self.new.keys } }
+        ensures rest { self.new ≡ record self.old {
+          table = self.new.table;
+          keys = self.new.keys;
+          passed = self.new.passed;
+        } }
         ensures sizes { KeepsSizes self.old self.new }
         ensures lines { KeepsLines self.old self.new }
         ensures places { IsMoved node Over self.old.table.places
@@ -404,6 +411,7 @@ impl Scheduler {
         ensures stands { StandRightly plan.now self.old.owners self.old.table.places
             → StandRightly plan.now self.new.owners self.new.table.places }
         ensures closes { ClosesNone self.old.table.places self.new.table.places }
+        ensures turns { OnOk result (ComeInTurn plan.now self.old → ComeInTurn plan.now self.new) }
     {
         let class = parent_of(plan, node);
         self.end(plan, held, node, class);
@@ -432,24 +440,44 @@ impl Scheduler {
     /// What comes after a child of a class that is open: the next one that its owner alone may
     /// enter, where the child was one, and the class itself after its last.
     fn go_on_after(&mut self, plan: &Plan, node: u32, class: u32) -> Result<(), AllocError>
-        ensures rest { self.new ≡ record self.old { table = self.new.table } }
+        ensures rest { self.new ≡ record self.old {
+          table = self.new.table;
+          passed = self.new.passed;
+        } }
         ensures sizes { KeepsSizes self.old self.new }
         ensures lines { KeepsLines self.old self.new }
         ensures places { KeepsPlaces self.old self.new }
         ensures stands { StandRightly plan.now self.old.owners self.old.table.places
             → StandRightly plan.now self.new.owners self.new.table.places }
         ensures closes { ClosesNone self.old.table.places self.new.table.places }
+        ensures turns { OnOk result (ComeInTurnBut (λ m. m ≡ class) plan.now self.old
+            → (mode (tree_of plan.now) plan.now.settings node ≡ Concurrent
+            → ComeInTurn plan.now self.old) → ComeInTurn plan.now self.new) }
     {
-        if self.place(class) != Place::Open {
+        if !is_open(self.place(class)) {
             return Ok(());
-        }
-        if class > 0 && self.left(class) == 0 {
-            return self.give_to_owner(class, class);
         }
         if is_concurrent(plan, node) {
-            return Ok(());
+            return self.end_after_last(class);
         }
-        self.go_on_in(plan, class)
+        self.go_on_in(plan, class)?;
+        self.end_after_last(class)
+    }
+
+    /// A class of which no child is left is its owner's.
+    fn end_after_last(&mut self, class: u32) -> Result<(), AllocError>
+        ensures rest { self.new ≡ record self.old { table = self.new.table } }
+        ensures sizes { KeepsSizes self.old self.new }
+        ensures lines { KeepsLines self.old self.new }
+        ensures places { KeepsPlaces self.old self.new }
+        ensures stands { KeepsStands self.old self.new }
+        ensures closes { ClosesNone self.old.table.places self.new.table.places }
+    {
+        if class > 0 && self.left(class) == 0 {
+            self.give_to_owner(class, class)
+        } else {
+            Ok(())
+        }
     }
 
     /// Whether something waits for a worker that needs no look into the deques: a class that it has
@@ -664,51 +692,66 @@ impl Scheduler {
     fn count_child(&mut self, class: u32)
         ensures { self.new ≡ self.old }
     {
-        if let Some(kept) = self.classes.get_mut(class as usize) {
-            kept.left = kept.left.saturating_sub(1);
+        if let Some(left) = self.left.get_mut(class as usize) {
+            *left = left.saturating_sub(1);
         }
     }
 
     /// How many children of a class aren't over.
     fn left(&self, class: u32) -> usize {
-        match self.classes.get(class as usize) {
-            Some(kept) => kept.left,
-            None => 0,
+        self.left.get(class as usize).copied().unwrap_or(0)
+    }
+
+    /// How many children of a class were looked at for the next that its owner alone may enter.
+    fn passed(&self, class: u32) -> usize
+        ensures { result ≡ passed_in self.now.passed class }
+    {
+        let class = class as usize;
+        if class < self.passed.len() {
+            self.passed[class]
+        } else {
+            0
+        }
+    }
+
+    /// So many children of a class were looked at.
+    fn pass(&mut self, class: u32, count: usize)
+        ensures { self.new ≡ record self.old {
+          passed = slice_set self.old.passed class count;
+        } }
+    {
+        if let Some(passed) = self.passed.get_mut(class as usize) {
+            *passed = count;
         }
     }
 
     /// The next child of a class that its owner alone may enter, if there is one, is the owner's.
     fn go_on_in(&mut self, plan: &Plan, class: u32) -> Result<(), AllocError>
-        ensures rest { self.new ≡ record self.old { table = self.new.table } }
+        ensures rest { self.new ≡ record self.old {
+          table = self.new.table;
+          passed = self.new.passed;
+        } }
         ensures sizes { KeepsSizes self.old self.new }
         ensures lines { KeepsLines self.old self.new }
         ensures places { KeepsPlaces self.old self.new }
         ensures stands { StandRightly plan.now self.old.owners self.old.table.places
             → StandRightly plan.now self.new.owners self.new.table.places }
         ensures closes { ClosesNone self.old.table.places self.new.table.places }
+        ensures turns { OnOk result (class < length plan.now.rows
+            → HasOwner self.old.owners self.old.table.workers class
+            → ComeInTurnBut (λ m. m ≡ class) plan.now self.old → ComeInTurn plan.now self.new) }
     {
-        match self.next_child(plan, class) {
-            Some(child) => self.give_to_owner(class, child),
-            None => Ok(()),
-        }
-    }
-
-    /// The next child of a class that its owner alone may enter, if there is one.
-    fn next_child(&mut self, plan: &Plan, class: u32) -> Option<u32>
-        ensures rest { self.new ≡ self.old }
-        ensures child { IfSome result (λ n.
-            (mode (tree_of plan.now) plan.now.settings n ≡ SameThread)
-            × (parent (tree_of plan.now) n ≡ class)) }
-    {
-        let kept = self.classes.get_mut(class as usize)?;
         let children = children_of(plan, class);
-        'children: for place in kept.passed..children.len() {
-            kept.passed = place + 1;
-            if !is_concurrent(plan, children[place]) {
-                return Some(children[place]);
+        match next_alone(plan, children, self.passed(class)) {
+            Some(place) => {
+                self.pass(class, place + 1);
+                self.give_to_owner(class, children[place])
+            }
+            None => {
+                self.pass(class, children.len());
+                Ok(())
             }
         }
-        None
     }
 
     /// A node that stands in no line is for a class's owner to attempt or to shut.
@@ -722,6 +765,9 @@ impl Scheduler {
             → StandRightly p self.old.owners self.old.table.places
             → StandRightly p self.new.owners self.new.table.places }
         ensures closes { ClosesNone self.old.table.places self.new.table.places }
+        ensures given { OnOk result (node < length self.old.table.places
+            → HasOwner self.old.owners self.old.table.workers class
+            → line_in (place_of self.new.table.places node) ≢ None) }
     {
         let Some(owner) = self.owner(class) else {
             return Ok(())
@@ -733,16 +779,20 @@ impl Scheduler {
     }
 }
 
-/// What is kept of each node at first.
-fn classes_of(alloc: Global, plan: &Plan) -> Result<Vec<Class>, AllocError> {
-    let mut classes = Vec::with_capacity(alloc, plan.len() as usize)?;
+/// How many children each node has.
+fn left_of(alloc: Global, plan: &Plan) -> Result<Vec<usize>, AllocError> {
+    let mut left = Vec::with_capacity(alloc, plan.len() as usize)?;
     for node in 0..plan.len() {
-        classes.push(Class {
-            left: plan.children(node).len(),
-            passed: 0,
-        })?;
+        left.push(plan.children(node).len())?;
     }
-    Ok(classes)
+    Ok(left)
+}
+
+/// Whether a place is an open class's.
+fn is_open(place: Place) -> bool
+    ensures { result ≡ is_open place }
+{
+    matches!(place, Place::Open)
 }
 
 /// Whether a place is a loose node's.

@@ -37,6 +37,7 @@ children-preserved c =
                 ap (λ (s : SchedulerView). place_of s.table.places n) w.scheduler-is ∙ same ∙ before.places n (ap is_entered (sym same) ∙ there);
             keys = ap (λ (s : SchedulerView). s.keys) (w.scheduler-is ∙ posted.step) ∙ before.keys;
             owners = ap (λ (s : SchedulerView). s.owners) (w.scheduler-is ∙ posted.step) ∙ before.owners;
+            passed = ap (λ (s : SchedulerView). s.passed) (w.scheduler-is ∙ posted.step) ∙ before.passed;
             stands = λ p right. subst (λ (s : SchedulerView). StandRightly p s.owners s.table.places) (sym w.scheduler-is) (posted.stands p (before.stands p right));
             closes = λ n e. before.closes n (put_loose n (ap (λ (s : SchedulerView). place_of s.table.places n) (sym w.scheduler-is) ∙ e));
             posted = λ sizes.
@@ -54,6 +55,7 @@ children-preserved c =
                 ∙ before.places n (subst (λ (s : SchedulerView). is_entered (place_of s.table.places n) ≡ true) w.scheduler-is e);
             keys = ap (λ (s : SchedulerView). s.keys) w.scheduler-is ∙ before.keys;
             owners = ap (λ (s : SchedulerView). s.owners) w.scheduler-is ∙ before.owners;
+            passed = ap (λ (s : SchedulerView). s.passed) w.scheduler-is ∙ before.passed;
             stands = λ p right. subst (λ (s : SchedulerView). StandRightly p s.owners s.table.places) (sym w.scheduler-is) (before.stands p right);
             closes = λ n e. before.closes n (ap (λ (s : SchedulerView). place_of s.table.places n) (sym w.scheduler-is) ∙ e);
             posted = λ sizes.

@@ -1,10 +1,12 @@
-use Rattle.std.proofs.Common.{ℕ, subst, sym}
+use Rattle.std.proofs.Common.{◌≡◌, ◌∙◌, ℕ, ap, subst, sym}
+use Rattle.iso_book.specs.Books.{BookView}
 use Rattle.iso_book.specs.Holdings.{HoldAfter}
 use Rattle.iso_book.specs.Progress.{HasGoneOn}
 use Rattle.iso_floor.specs.Desks.{IsDesk}
 use Rattle.iso_lifecycle.specs.declared.kind.BodyKind.{BodyKind}
 use Rattle.iso_standing.specs.declared.event.Event.TheVariants.{Leave}
 use Rattle.iso_floor.proofs.DeskLemmas.{desk-left, desk-stopped}
+use Rattle.iso_floor.proofs.SuccessionLemmas.{ok-told, turns-by, was-stopped}
 use Rattle.iso_floor.proofs.desk.Desk.leave.Goals as goal
 
 pub invariant_of-self-then-is_err : goal.invariant_of-self-then-is_err
@@ -24,6 +26,7 @@ invariant_of-self-then-is_err g c =
     step.sizes step.lines progress step.places step.owners step.stands step.closes c.self.invariant.desk in
     record {
       desk = desk-stopped g.G.Ground.plan g.G.Ground.start g.G.Ground.workers a c.stop.new.self c.leave-left.new.self c.stop.ensures is;
+      turns = λ some on. absurd (was-stopped a c.stop.new.self c.stop.ensures on);
       seats = c.self.invariant.seats;
       first = c.self.invariant.first;
     }
@@ -43,8 +46,12 @@ invariant_of-self-else-is_err g c =
     desk-left g.G.Ground.plan g.G.Ground.start g.G.Ground.workers i.book c.leave_own.new.self (Leave c.args.worker) left.event.book c.plan.result.now c.nodes_are_a_tree.ensures c.plan.ensures
     i.scheduler c.leave-left.new.self c.kind-kind.result c.node-node.result c.plan-2.result.now c.held.result.now.held held c.plan-2.ensures c.held.ensures.held step.stays step.keys step.past
     step.sizes step.lines progress step.places step.owners step.stands step.closes c.self.invariant.desk in
+    let plans : c.plan-2.result.now ≡ g.G.Ground.plan = c.plan-2.ensures ∙ ap (λ (x : BookView). x.plan) left.event.book ∙ c.self.invariant.desk.book.plan_is in
     record {
       desk = is;
+      turns = λ some on.
+          turns-by g.G.Ground.plan c.plan-2.result.now plans i.scheduler c.leave-left.new.self (ok-told c.leave-left.result (sym c.is_err.ensures ∙ c.if-is_err.false) step.turns)
+          (c.self.invariant.turns some (sym (ap (λ (x : BookView). x.stopped) left.event.book) ∙ on));
       seats = c.self.invariant.seats;
       first = c.self.invariant.first;
     }

@@ -6,8 +6,11 @@ use Rattle.iso_floor.specs.KeyMarks.{KeysView}
 use Rattle.iso_floor.specs.Parties.{owner_of}
 use Rattle.iso_floor.specs.Schedulers.{SchedulerView}
 use Rattle.iso_locks.specs.Trays.{TrayView}
+use Rattle.iso_floor.specs.Successions.{ComeInTurn}
+use Rattle.iso_plan.specs.Planned.{Planned}
 use Rattle.iso_floor.proofs.DeskLemmas.{desk-new}
 use Rattle.iso_floor.proofs.PlaceLemmas.{moved-kept}
+use Rattle.iso_floor.proofs.SuccessionLemmas.{turns-kept}
 use Rattle.iso_floor.proofs.desk.Desk.new.Goals as goal
 
 pub invariant_of-result-2 : goal.invariant_of-result-2
@@ -28,6 +31,11 @@ invariant_of-result-2 g c =
           (posted.stands p new.stands) (λ m w e. new.owners m w (ap (λ (os : List (Option ℕ)). owner_of os m) (sym posted.owners) ∙ e))
           (λ e. new.root tree.rooted (posted.closes 0 e))
           (λ some. c.in_ok-post_root.ensures.posted (subst (λ (k : ℕ). 0 < k) (sym c.in_ok-seats.ensures.number) some) tree.rooted new.sizes.nodes_are));
+      turns = λ some on.
+          subst (λ (s : SchedulerView). ComeInTurn g.G.Ground.plan s) (sym c.scheduler.view_is)
+          (subst (λ (x : Planned). ComeInTurn x c.post_root.new.scheduler) c.requires.plan
+          (turns-kept (λ m. ⊥) p _ c.post_root.new.scheduler posted.sizes posted.closes posted.places posted.owners posted.passed
+          (new.turns tree.rooted (subst (λ (k : ℕ). 0 < k) (sym c.requires.workers) some))));
       seats = search rules;
       first = record {
         plan_is = ap (λ (t : TrayView). t.plan) c.in_ok-new-2.ensures ∙ c.requires.plan;

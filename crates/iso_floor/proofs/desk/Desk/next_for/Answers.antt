@@ -6,6 +6,7 @@ use Rattle.iso_floor.specs.Schedulers.{SchedulerView}
 use Rattle.iso_floor.proofs.DeskLemmas.{desk-table}
 use Rattle.iso_floor.proofs.PartyLemmas.{may-some, next-some, stand-next}
 use Rattle.iso_floor.proofs.PostingLemmas.{closes-taken}
+use Rattle.iso_floor.proofs.SuccessionLemmas.{turns-table}
 use Rattle.iso_floor.proofs.desk.Desk.next_for.Goals as goal
 
 pub invariant_of-self : goal.invariant_of-self
@@ -17,6 +18,10 @@ invariant_of-self g c =
           (stand-next g.G.Ground.plan i.scheduler c.next_for.new.self c.next_for.result c.next_for.ensures.left)
           (subst (λ (s : SchedulerView). ClosesNone i.scheduler.table.places s.table.places) (sym c.next_for.ensures.left) (closes-taken i.scheduler.table c.next_for.result))
           c.self.invariant.desk;
+      turns = λ some on.
+          turns-table g.G.Ground.plan i.scheduler c.next_for.new.self c.next_for.ensures.left c.next_for.ensures.sizes
+          (subst (λ (s : SchedulerView). ClosesNone i.scheduler.table.places s.table.places) (sym c.next_for.ensures.left) (closes-taken i.scheduler.table c.next_for.result))
+          c.next_for.ensures.places (c.self.invariant.turns some on);
       seats = c.self.invariant.seats;
       first = c.self.invariant.first;
     }

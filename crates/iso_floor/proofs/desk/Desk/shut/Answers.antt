@@ -1,7 +1,10 @@
-use Rattle.std.proofs.Common.{ap}
+use Rattle.std.proofs.Common.{ap, sym, ◌∙◌}
+use Rattle.iso_book.specs.Books.{BookView}
+use Rattle.iso_desk.specs.declared.place.Place.TheVariants.{With}
 use Rattle.iso_floor.specs.Schedulers.{SchedulerView}
 use Rattle.iso_standing.specs.declared.event.Event.TheVariants.{Shut}
 use Rattle.iso_floor.proofs.DeskLemmas.{desk-shut}
+use Rattle.iso_floor.proofs.SuccessionLemmas.{turns-put}
 use Rattle.iso_floor.proofs.desk.Desk.shut.Goals as goal
 
 pub invariant_of-self-2 : goal.invariant_of-self-2
@@ -15,6 +18,10 @@ invariant_of-self-2 g c =
           c.nodes_are_a_tree.ensures c.plan.ensures
           i.scheduler c.shut.new.self c.args.worker c.args.class shut.held (ap (λ (x : SchedulerView). x.keys) step.step) step.sizes step.lines shut.progress
           shut.event.is_allowed.allowed (ap (λ (x : SchedulerView). x.table) step.step) (ap (λ (x : SchedulerView). x.owners) step.step) c.self.invariant.desk;
+      turns = λ some on.
+          turns-put g.G.Ground.plan i.scheduler c.shut.new.self c.args.class (With c.args.worker) (λ f. cc) (λ f. cc) (λ f. cc) step.sizes (ap (λ (x : SchedulerView). x.table) step.step)
+          (ap (λ (x : SchedulerView). x.owners) step.step) (ap (λ (x : SchedulerView). x.passed) step.step)
+          (c.self.invariant.turns some (sym (ap (λ (x : BookView). x.stopped) shut.event.book) ∙ on));
       seats = c.self.invariant.seats;
       first = c.self.invariant.first;
     }

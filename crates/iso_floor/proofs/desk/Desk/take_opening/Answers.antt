@@ -1,4 +1,5 @@
 use Rattle.iso_floor.proofs.DeskLemmas.{desk-same}
+use Rattle.iso_floor.proofs.SuccessionLemmas.{turns-is}
 use Rattle.iso_floor.proofs.desk.Desk.take_opening.Goals as goal
 
 pub invariant_of-self : goal.invariant_of-self
@@ -6,6 +7,7 @@ invariant_of-self g c =
     let i = c.self.inside in
     record {
       desk = desk-same g.G.Ground.plan g.G.Ground.start g.G.Ground.workers i.book i.scheduler c.take_opening.new.self c.take_opening.ensures c.self.invariant.desk;
+      turns = λ some on. turns-is g.G.Ground.plan i.scheduler c.take_opening.new.self c.take_opening.ensures (c.self.invariant.turns some on);
       seats = c.self.invariant.seats;
       first = c.self.invariant.first;
     }

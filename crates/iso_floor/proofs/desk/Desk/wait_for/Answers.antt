@@ -3,6 +3,7 @@ use Rattle.iso_floor.specs.Desks.{DeskView}
 use Rattle.iso_floor.specs.Parties.{MayTry, StandRightly}
 use Rattle.iso_plan.specs.Planned.{Planned}
 use Rattle.iso_floor.proofs.DeskLemmas.{desk-table}
+use Rattle.iso_floor.proofs.SuccessionLemmas.{turns-table}
 use Rattle.iso_floor.proofs.desk.Desk.wait_for.Goals as goal
 
 pub invariant_of-self : goal.invariant_of-self
@@ -18,6 +19,9 @@ invariant_of-self g c =
     record {
       desk = desk-table g.G.Ground.plan g.G.Ground.start g.G.Ground.workers i.book i.scheduler c.wait_for.new.self c.wait_for.ensures.rest c.wait_for.ensures.sizes
           (c.wait_for.ensures.lines g.G.Ground.plan.rows c.requires.takes) c.wait_for.ensures.places stands c.wait_for.ensures.closes c.self.invariant.desk;
+      turns = λ some on.
+          turns-table g.G.Ground.plan i.scheduler c.wait_for.new.self c.wait_for.ensures.rest c.wait_for.ensures.sizes c.wait_for.ensures.closes c.wait_for.ensures.places
+          (c.self.invariant.turns some on);
       seats = c.self.invariant.seats;
       first = c.self.invariant.first;
     }

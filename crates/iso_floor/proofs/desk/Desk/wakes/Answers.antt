@@ -1,5 +1,6 @@
 use Rattle.iso_floor.proofs.AsleepLemmas.{desk-left-asleep, desk-shuts}
 use Rattle.iso_floor.proofs.DeskLemmas.{desk-members, desk-none, none-told}
+use Rattle.iso_floor.proofs.SuccessionLemmas.{turns-members}
 use Rattle.iso_floor.proofs.desk.Desk.wakes.Goals as goal
 
 pub invariant_of-self : goal.invariant_of-self
@@ -7,6 +8,7 @@ invariant_of-self g c =
     let i = c.self.inside in
     record {
       desk = desk-members g.G.Ground.plan g.G.Ground.start g.G.Ground.workers i.book i.scheduler c.call.new.self c.call.ensures.marked c.call.ensures.sizes c.self.invariant.desk;
+      turns = λ some on. turns-members g.G.Ground.plan i.scheduler c.call.new.self c.call.ensures.marked c.call.ensures.sizes (c.self.invariant.turns some on);
       seats = c.self.invariant.seats;
       first = c.self.invariant.first;
     }

@@ -1,5 +1,8 @@
+use Rattle.std.proofs.Common.{ap}
 use Rattle.iso_desk.specs.declared.place.Place.TheVariants.{Over}
+use Rattle.iso_floor.specs.Schedulers.{SchedulerView}
 use Rattle.iso_floor.proofs.PlaceLemmas.{moved-kept}
+use Rattle.iso_floor.proofs.SuccessionLemmas.{ok-map, turns-ended, turns-free}
 use Rattle.iso_floor.proofs.scheduler.Scheduler.finish.Goals as goal
 
 pub returns-clause-lines : goal.returns-clause-lines
@@ -13,3 +16,16 @@ returns-clause-stands c = λ right. c.go_on_after.ensures.stands (c.end.ensures.
 
 pub returns-clause-closes : goal.returns-clause-closes
 returns-clause-closes c = λ n e. c.end.ensures.closes n (c.go_on_after.ensures.closes n e)
+
+pub returns-clause-turns : goal.returns-clause-turns
+returns-clause-turns c =
+    let p = c.args.plan.now in
+    let old = c.args.self.now in
+    let ended = c.end in
+    let owners = ap (λ (s : SchedulerView). s.owners) ended.ensures.rest in
+    let passed = ap (λ (s : SchedulerView). s.passed) ended.ensures.rest in
+    ok-map c.go_on_after.result
+    (λ goes turn.
+    goes (turns-ended p old ended.new.self c.args.node ended.ensures.sizes ended.ensures.closes ended.ensures.places owners passed c.parent_of-class.result c.parent_of-class.ensures turn)
+    (λ free. turns-free p old ended.new.self c.args.node ended.ensures.sizes ended.ensures.closes ended.ensures.places owners passed free turn))
+    c.go_on_after.ensures.turns

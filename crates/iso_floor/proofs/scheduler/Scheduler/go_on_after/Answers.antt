@@ -1,5 +1,41 @@
-use Rattle.std.proofs.Common.{inl}
+use Rattle.std.proofs.Common.{◌≡◌, ◌<◌, ℕ, length, subst, sym, ◌∙◌}
+use Rattle.iso_desk.specs.Places.{place_of}
+use Rattle.iso_desk.specs.declared.place.Place.TheVariants.{Open}
+use Rattle.iso_floor.proofs.SuccessionLemmas.{ok-always, open-told, open-within, shut-told, turns-closed, turns-table}
 use Rattle.iso_floor.proofs.scheduler.Scheduler.go_on_after.Goals as goal
 
-pub returns-then-left-eq0-clause-stands : goal.returns-then-left-eq0-clause-stands
-returns-then-left-eq0-clause-stands c = λ right. c.give_to_owner.ensures.stands c.args.plan.now (λ v e. inl e) right
+pub returns-clause-lines : goal.returns-clause-lines
+returns-clause-lines c = λ tree right. c.end_after_last-2.ensures.lines tree (c.go_on_in.ensures.lines tree right)
+
+pub returns-clause-stands : goal.returns-clause-stands
+returns-clause-stands c = λ right. c.end_after_last-2.ensures.stands c.args.plan.now (c.go_on_in.ensures.stands right)
+
+pub returns-then-is_concurrent-clause-stands : goal.returns-then-is_concurrent-clause-stands
+returns-then-is_concurrent-clause-stands c = λ right. c.end_after_last.ensures.stands c.args.plan.now right
+
+pub returns-then-not-is_open-clause-turns : goal.returns-then-not-is_open-clause-turns
+returns-then-not-is_open-clause-turns c =
+    λ was free.
+    turns-closed c.args.plan.now c.args.self.now c.args.class
+    (λ e. shut-told c.place.result (sym c.is_open.ensures ∙ c.if-not-is_open.true) (c.place.ensures ∙ e)) was
+
+pub returns-then-is_concurrent-clause-turns : goal.returns-then-is_concurrent-clause-turns
+returns-then-is_concurrent-clause-turns c =
+    let p = c.args.plan.now in
+    let old = c.args.self.now in
+    let last = c.end_after_last in
+    ok-always last.result
+    (λ was free. turns-table p old last.new.self last.ensures.rest last.ensures.sizes last.ensures.closes last.ensures.places (free (c.is_concurrent.ensures.yes c.if-is_concurrent.true)))
+
+pub returns-clause-turns : goal.returns-clause-turns
+returns-clause-turns c =
+    let p = c.args.plan.now in
+    let old = c.args.self.now in
+    let n = c.args.class in
+    let mid = c.go_on_in.new.self in
+    let last = c.end_after_last-2 in
+    let opened : place_of old.table.places n ≡ Open = sym c.place.ensures ∙ open-told c.place.result (sym c.is_open.ensures ∙ c.if-not-is_open.false) in
+    ok-always last.result
+    (λ was free.
+    let low : n < length p.rows = subst (λ (k : ℕ). n < k) was.places_are (open-within old.table.places n opened) in
+    turns-table p mid last.new.self last.ensures.rest last.ensures.sizes last.ensures.closes last.ensures.places (c.in_ok-go_on_in.ensures.turns low (was.owned n opened) was))

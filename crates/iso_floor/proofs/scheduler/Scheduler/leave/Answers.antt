@@ -2,6 +2,7 @@ use Rattle.std.proofs.Common.{ap, subst, sym, ◌∙◌}
 use Rattle.iso_floor.specs.Schedulers.{SchedulerView, WaitRightly}
 use Rattle.iso_floor.specs.Parties.{StandRightly}
 use Rattle.iso_desk.specs.Places.{place_of}
+use Rattle.iso_floor.proofs.SuccessionLemmas.{turns-is}
 use Rattle.iso_floor.proofs.scheduler.Scheduler.leave.Goals as goal
 
 pub returns-in-BeforeAll-clause-lines : goal.returns-in-BeforeAll-clause-lines
@@ -12,3 +13,6 @@ returns-in-BeforeAll-clause-stands c = λ right. subst (λ (s : SchedulerView). 
 
 pub returns-in-BeforeAll-clause-closes : goal.returns-in-BeforeAll-clause-closes
 returns-in-BeforeAll-clause-closes c = λ n e. ap (λ (s : SchedulerView). place_of s.table.places n) (sym c.leave_open.ensures) ∙ e
+
+pub returns-in-BeforeAll-clause-turns : goal.returns-in-BeforeAll-clause-turns
+returns-in-BeforeAll-clause-turns c = λ turn. turns-is c.args.plan.now c.args.self.now c.leave_open.new.self c.leave_open.ensures turn

@@ -28,3 +28,8 @@ pub returns-clause-root : goal.returns-clause-root
 returns-clause-root c =
     let closed = c.in_ok-scheduler.ensures in
     λ some. c.open.ensures.opened (subst (λ (k : ℕ). 0 < k) (sym closed.sizes.nodes_are) some)
+
+pub returns-clause-turns : goal.returns-clause-turns
+returns-clause-turns c =
+    let closed = c.in_ok-scheduler.ensures in
+    λ some manned. c.in_ok-open.ensures.turns some (subst (λ (k : ℕ). 0 < k) (sym closed.sizes.workers_are) manned) closed.turns

@@ -1,12 +1,14 @@
-use Rattle.std.proofs.Common.{◌≡◌, ◌<◌, ap, length, subst, sym, ◌∙◌}
-use Rattle.iso_floor.specs.Schedulers.{IsMoved, SchedulerView, WaitRightly}
+use Rattle.std.proofs.Common.{◌≡◌, ◌<◌, ℕ, List, Option, Some, ap, length, refl, set, subst, sym, ◌∙◌}
+use Rattle.iso_floor.specs.Schedulers.{IsFor, IsMoved, KeepsSizes, SchedulerView, WaitRightly}
+use Rattle.iso_floor.specs.Successions.{HasOwner}
 use Rattle.iso_desk.specs.declared.place.Place.TheVariants.{Closed, Open}
 use Rattle.iso_floor.proofs.PlaceLemmas.{moved-kept}
 use Rattle.iso_floor.specs.Parties.{StandRightly}
 use Rattle.iso_floor.proofs.PartyLemmas.{stand-owners}
-use Rattle.iso_desk.specs.Places.{place_of}
+use Rattle.iso_desk.specs.Places.{TableView, place_of}
 use Rattle.iso_floor.specs.Postings.{ClosesNone}
 use Rattle.iso_floor.proofs.PostingLemmas.{closes-put, put-there}
+use Rattle.iso_floor.proofs.SuccessionLemmas.{ok-map, owner-there, turns-opened}
 use Rattle.iso_floor.proofs.scheduler.Scheduler.open.Goals as goal
 
 pub returns-clause-lines : goal.returns-clause-lines
@@ -41,3 +43,36 @@ returns-clause-opened c =
     λ low e.
     let within : n < length owned.table.places = subst (λ (s : SchedulerView). n < length s.table.places) (sym c.own.ensures) low in
     put-there owned.table n Open (λ f. cc) within (subst (λ (s : SchedulerView). place_of s.table.places n ≡ Closed) c.put.ensures.step (c.go_on_in.ensures.closes n e))
+
+pub returns-clause-turns : goal.returns-clause-turns
+returns-clause-turns c =
+    let p = c.args.plan.now in
+    let old = c.args.self.now in
+    let n = c.args.class in
+    let o = c.args.owner in
+    let owned = c.own.new.self in
+    let put = c.put.new.self in
+    let owners : put.owners ≡ set old.owners n (Some o) = ap (λ (s : SchedulerView). s.owners) c.put.ensures.step ∙ ap (λ (s : SchedulerView). s.owners) c.own.ensures in
+    let passed : put.passed ≡ old.passed = ap (λ (s : SchedulerView). s.passed) c.put.ensures.step ∙ ap (λ (s : SchedulerView). s.passed) c.own.ensures in
+    let workers : owned.table.workers ≡ old.table.workers = ap (λ (s : SchedulerView). s.table.workers) c.own.ensures in
+    let same : owned.table ≡ old.table = ap (λ (s : SchedulerView). s.table) c.own.ensures in
+    let sizes : KeepsSizes old put = λ nodes crew f. c.put.ensures.sizes nodes crew (subst (λ (s : SchedulerView). IsFor nodes crew s) (sym c.own.ensures) (record { nodes_are = f.nodes_are; workers_are = f.workers_are })) in
+    let closes : ClosesNone old.table.places put.table.places =
+    λ m e. ap (λ (t : TableView). place_of t.places m) (sym same)
+        ∙ subst (λ (s : SchedulerView). ClosesNone owned.table.places s.table.places) (sym c.put.ensures.step) (closes-put owned.table n Open (λ f. cc)) m e in
+    let moves : IsMoved n Open old.table.places put.table.places = subst (λ (t : TableView). IsMoved n Open t.places put.table.places) same c.put.ensures.places in
+    ok-map c.go_on_in.result
+    (λ goes low known turn.
+    let after = turns-opened p old put n o sizes closes moves owners passed low known turn in
+    let crew : put.table.workers ≡ old.table.workers = (sizes (length old.table.places) old.table.workers (record { nodes_are = refl; workers_are = refl })).workers_are in
+    let owner : HasOwner put.owners put.table.workers n =
+    subst (λ (os : List (Option ℕ)). HasOwner os put.table.workers n) (sym owners)
+    (owner-there old.owners n o put.table.workers (subst (λ (k : ℕ). n < k) (sym turn.owners_are) low) (subst (λ (k : ℕ). o < k) (sym crew) known)) in
+    goes low owner after)
+    c.go_on_in.ensures.turns
+
+pub returns-clause-sizes : goal.returns-clause-sizes
+returns-clause-sizes c =
+    λ nodes crew f.
+    c.go_on_in.ensures.sizes nodes crew
+    (c.put.ensures.sizes nodes crew (subst (λ (s : SchedulerView). IsFor nodes crew s) (sym c.own.ensures) (record { nodes_are = f.nodes_are; workers_are = f.workers_are })))
