@@ -1,5 +1,5 @@
 -- Which nodes are held in two books, by what their vaults have lent.
-use Rattle.std.proofs.Common.{◌≡◌, ◌≢◌, ◌<◌, ℕ, Bool, false, true, List, length, ap, refl, sym, ◌∙◌, subst}
+use Rattle.std.proofs.Common.{◌≡◌, ◌≢◌, ◌<◌, ℕ, Bool, false, true, List, length, ap, sym, ◌∙◌, subst}
 use Rattle.std.proofs.lemmas.List.{get_or-set_other}
 use Rattle.iso_book.specs.Books.{BookView, state_in}
 use Rattle.iso_book.specs.Holdings.{HoldAfter, HoldAlike, HoldSame}

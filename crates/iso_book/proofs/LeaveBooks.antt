@@ -1,13 +1,13 @@
 -- A book after a Leave: it is a book with that event more.
-use Rattle.std.proofs.Common.{◌≡◌, ◌≢◌, ℕ, ◌<◌, ◌≤◌, ◌+◌, List, [], ◌∷◌, ◌++◌, Option, Some, None, Bool, true, false, length, not, inl, inr, refl, sym, ap, ap₂, ◌∙◌, subst, arith}
+use Rattle.std.proofs.Common.{◌≡◌, ◌≢◌, ◌⊎◌, ℕ, ◌<◌, ◌≤◌, ◌+◌, List, [], ◌∷◌, ◌++◌, Option, Some, None, Bool, true, false, length, not, inl, inr, refl, sym, ap, ap₂, ◌∙◌, subst, arith}
 use Rattle.std.proofs.lemmas.List.{get_or-set_same, get_or-set_other, length-append, length-set}
 use Rattle.iso_book.proofs.LeaveRuns.{GoOnByLeaves, LookOn, ResultsStay, at-leave, goes, has-body, looks-before, results-before, unrefused, busy-before, next, node-done, own, same-held, same-owner, same-phase, same-weight}
-use Rattle.iso_book.proofs.LeaveStates.{IsFinishedBy, IsOpenedBy, begun-phase, begun-weight, body-weight, first-kind, first-left, last-left}
+use Rattle.iso_book.proofs.LeaveStates.{EndsIn, IsFinishedBy, IsOpenedBy, begun-phase, begun-weight, body-going, body-weight, first-kind, first-left, last-left}
 use Rattle.iso_book.proofs.Runs.{book_of}
 use Rattle.iso_book.proofs.Weights.{among, one-less, weight-at}
 use Rattle.iso_book.specs.Books.{BookView, IsBook, left_below, left_in, state_in, suite_in, weight, with_event}
 use Rattle.iso_book.specs.Leaves.{MayBring, booking_in, home_after, is_last, is_of_worker, leave_refusal_in}
-use Rattle.iso_book.specs.Progress.{HasGoneOn, has_come}
+use Rattle.iso_book.specs.Progress.{HasGoneOn, has_come, is_under_way}
 use Rattle.iso_isolation.proofs.Changes.{equal_or_not}
 use Rattle.iso_isolation.proofs.Statuses.{body_held}
 use Rattle.iso_isolation.specs.Events as E
@@ -247,6 +247,14 @@ module _ (b : BookView) (v : Standing) (vault : VaultView) (r : ResultsView) (ro
   there-by (first begins) m ne entered = (opened begins).there m ne entered
   there-by (last ends own_last) m ne entered = (finished ends).there m ne
 
+  -- what waited waits, or is finished since the node around it was barred
+  abbrev WaitsOrEnds : ℕ → Type 0
+  WaitsOrEnds m = (phase_of (t.nodes.status m) ≡ P.Waiting) ⊎ EndsIn b.plan b.world n p.nodes t.nodes m
+
+  waits-by : First d.kind → (m : ℕ) → (m ≡ n → ⊥) → phase_of (p.nodes.status m) ≡ P.Waiting → WaitsOrEnds m
+  waits-by (first begins) m ne waited = (opened begins).waits m ne waited
+  waits-by (last ends own_last) m ne waited = inl (ap phase_of ((finished ends).there m ne) ∙ waited)
+
   come-first : d.kind ≡ K.BeforeAll → has_come d.kind (phase_of (t.nodes.status n)) ≡ true
   come-first begins =
       subst (λ (k : BodyKind). has_come k (phase_of (t.nodes.status n)) ≡ true) (sym begins) (sym (rest-is (t.nodes.status n)) ∙ (opened begins).rests)
@@ -265,6 +273,8 @@ module _ (b : BookView) (v : Standing) (vault : VaultView) (r : ResultsView) (ro
       let state : state_in (with_event b (Code.Leave w)) ≡ t = next b v vault r room is w allowed g like in
       let inside = there.within in
       record {
+        within = inside;
+        going = ap is_under_way (sym (phase n inside)) ∙ body-going (p.nodes.status n) g.body there.body;
         before = λ begins.
             sym (phase n inside) ∙ begun-phase (p.nodes.status n) g.body there.body (sym there.closing ∙ ap is_after_all begins);
         phase = ap (λ (q : RunState). has_come d.kind (phase_of (q.nodes.status n))) state ∙ come-by (which d.kind);
@@ -276,6 +286,16 @@ module _ (b : BookView) (v : Standing) (vault : VaultView) (r : ResultsView) (ro
               ∙ phase m h;
           owners = λ m h ne entered. ap (λ (q : RunState). q.owner m) state ∙ same-owner b v vault r room is w allowed g like m h;
         };
+        waiting = λ m h ne waited.
+            elim (waits-by (which d.kind) m ne (phase m h ∙ waited)) [
+              | inl waits ↦ inl (ap (λ (q : RunState). phase_of (q.nodes.status m)) state ∙ waits)
+              | inr ends ↦
+                  inr (record {
+                    finished = ap (λ (q : RunState). phase_of (q.nodes.status m)) state ∙ ends.ended;
+                    inside = ends.inside;
+                    barred = ap (λ (q : RunState). phase_of (q.nodes.status n)) state ∙ ends.barred;
+                  })
+            ];
       }
 
   pub goes-on : HasGoneOn d.kind d.subject.node b (with_event b (Code.Leave w))

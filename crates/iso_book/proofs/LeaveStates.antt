@@ -1,6 +1,7 @@
 -- The state after the Leave of an ended body: which nodes are held there, and how many events may still come.
-use Rattle.std.proofs.Common.{◌≡◌, ◌≢◌, ℕ, ◌<◌, ◌≤◌, List, Some, Bool, true, false, cond, ◌&&◌, refl, sym, ap, ◌∙◌, subst, arith}
+use Rattle.std.proofs.Common.{◌≡◌, ◌≢◌, ◌⊎◌, ℕ, ◌<◌, ◌≤◌, List, Some, Bool, true, false, cond, ◌&&◌, inl, inr, refl, sym, ap, ◌∙◌, subst, arith}
 use Rattle.iso_book.specs.Books.{weight}
+use Rattle.iso_book.specs.Progress.{is_under_way}
 use Rattle.iso_isolation.proofs.Changes.{put_elsewhere, put_here, unmoved}
 use Rattle.iso_isolation.specs.Events.{barring, ended_well, frames_left, leaving, open_or_barred, opening_left, stands_in}
 use Rattle.iso_isolation.specs.Restoring.{finishing}
@@ -95,6 +96,22 @@ open-rests : (t : Bool) (fs : List Frame) → is_at_rest {B = Stage} {F = Frame}
 open-rests true fs = refl
 open-rests false fs = refl
 
+-- a class whose `before_all` didn't end well is barred
+barred-phase : (t : Bool) (fs : List Frame) → t ≡ false → phase_of {B = Stage} {F = Frame} {R = Outcome} (open_or_barred t fs) ≡ P.Barred
+barred-phase true fs e = absurd cc
+barred-phase false fs e = refl
+
+-- what waits when a class is barred is finished where it stands in the class
+finished-waiting : (i : Bool) (st : NodeStatus) (r : Outcome) → phase_of st ≡ P.Waiting
+    → (cond (i && is_waiting st) (Finished r) st ≡ st) ⊎ ((phase_of (cond (i && is_waiting st) (Finished r) st) ≡ P.Finished) × (i ≡ true))
+finished-waiting true Waiting r w = inr (refl, refl)
+finished-waiting true (Begun b) r w = absurd cc
+finished-waiting true (Open fs) r w = absurd cc
+finished-waiting true (Barred fs) r w = absurd cc
+finished-waiting true (Closing fs b) r w = absurd cc
+finished-waiting true (Finished q) r w = absurd cc
+finished-waiting false st r w = inl refl
+
 -- what was entered isn't finished when a class is barred around it
 finished-entered : (i : Bool) (st : NodeStatus) (r : Outcome) → phase_of st ≢ P.Waiting → cond (i && is_waiting st) (Finished r) st ≡ st
 finished-entered true Waiting r entered = absurd (entered refl)
@@ -122,6 +139,14 @@ begun-phase (Barred fs) b e open_yet = absurd cc
 begun-phase (Closing fs c) b e open_yet = absurd cc
 begun-phase (Finished r) b e open_yet = absurd cc
 
+pub body-going : (st : NodeStatus) (b : Stage) → body_in st ≡ Some b → is_under_way (phase_of st) ≡ true
+body-going Waiting b e = absurd cc
+body-going (Begun c) b e = refl
+body-going (Open fs) b e = absurd cc
+body-going (Barred fs) b e = absurd cc
+body-going (Closing fs c) b e = refl
+body-going (Finished r) b e = absurd cc
+
 module _ (plan : Planned) (world : Start) (n : ℕ) (s : RunNodes) where
   abbrev x : Suite Head (List ℕ) Resource
   x = suite_at plan world
@@ -133,6 +158,12 @@ module _ (plan : Planned) (world : Start) (n : ℕ) (s : RunNodes) where
     pub weight_here : weight (phase_of (t.status n)) ≡ 0
     pub there : (m : ℕ) → (m ≡ n → ⊥) → t.status m ≡ s.status m
 
+  -- a node is finished that stands in the node, which is barred
+  pub record EndsIn (t : RunNodes) (m : ℕ) : Type 0 where
+    pub ended : phase_of (t.status m) ≡ P.Finished
+    pub inside : stands_in scripts x m n ≡ true
+    pub barred : phase_of (t.status n) ≡ P.Barred
+
   -- a class is at rest when its first body is left, and what waits in it may be finished
   pub record IsOpenedBy (t : RunNodes) : Type 0 where
     pub held : (m : ℕ) → is_held (t.status m) ≡ is_held (s.status m)
@@ -140,6 +171,7 @@ module _ (plan : Planned) (world : Start) (n : ℕ) (s : RunNodes) where
     pub no_more : (m : ℕ) → (m ≡ n → ⊥) → weight (phase_of (t.status m)) ≤ weight (phase_of (s.status m))
     pub rests : is_at_rest (t.status n) ≡ true
     pub there : (m : ℕ) → (m ≡ n → ⊥) → phase_of (s.status m) ≢ P.Waiting → t.status m ≡ s.status m
+    pub waits : (m : ℕ) → (m ≡ n → ⊥) → phase_of (s.status m) ≡ P.Waiting → (phase_of (t.status m) ≡ P.Waiting) ⊎ EndsIn t m
 
   finished : (r : Outcome) → IsFinishedBy (finishing scripts x n r s)
   finished r = record {
@@ -179,10 +211,11 @@ module _ (plan : Planned) (world : Start) (n : ℕ) (s : RunNodes) where
               (put_elsewhere m n now s.status ne) in omega arith;
           rests = ap is_at_rest (put_here n now s.status) ∙ open-rests (ended_well scripts x n b s) (frames_left scripts x n b s);
           there = λ m ne entered. put_elsewhere m n now s.status ne;
+          waits = λ m ne waited. inl (ap phase_of (put_elsewhere m n now s.status ne) ∙ waited);
         }
 
-    barred : IsOpenedBy (barring scripts x n (frames_left scripts x n b s) o)
-    barred =
+    barred : ended_well scripts x n b s ≡ false → IsOpenedBy (barring scripts x n (frames_left scripts x n b s) o)
+    barred ill =
         let r = scripts.blocked (frames_left scripts x n b s) in
         let is = opened in
         record {
@@ -193,11 +226,25 @@ module _ (plan : Planned) (world : Start) (n : ℕ) (s : RunNodes) where
           there = λ m ne entered.
               let same : o.status m ≡ s.status m = is.there m ne entered in
               finished-entered (stands_in scripts x m n) (o.status m) r (λ w. entered (ap phase_of (sym same) ∙ w)) ∙ same;
+          waits = λ m ne waited.
+              let now : NodeStatus = open_or_barred (ended_well scripts x n b s) (frames_left scripts x n b s) in
+              let same : phase_of (o.status m) ≡ P.Waiting = ap phase_of (put_elsewhere m n now s.status ne) ∙ waited in
+              elim (finished-waiting (stands_in scripts x m n) (o.status m) r same) [
+                | inl e ↦ inl (ap phase_of e ∙ same)
+                | inr e ↦
+                    inr (record {
+                      ended = e.0;
+                      inside = e.1;
+                      barred =
+                          ap phase_of (finished-entered (stands_in scripts x n n) (o.status n) r (rests-entered (o.status n) is.rests))
+                          ∙ ap phase_of (put_here n now s.status) ∙ barred-phase (ended_well scripts x n b s) (frames_left scripts x n b s) ill;
+                    })
+              ];
         }
 
-    either : (well : Bool) → IsOpenedBy (cond well o (barring scripts x n (frames_left scripts x n b s) o))
-    either true = opened
-    either false = barred
+    either : (well : Bool) → ended_well scripts x n b s ≡ well → IsOpenedBy (cond well o (barring scripts x n (frames_left scripts x n b s) o))
+    either true e = opened
+    either false e = barred e
 
   -- the Leave of a first body of a class
   pub first-left : (b : Stage) → is_kind_of K.BeforeAll (row_at (tree_of plan) n).kind ≡ true → is_held (s.status n) ≡ true
@@ -207,7 +254,7 @@ module _ (plan : Planned) (world : Start) (n : ℕ) (s : RunNodes) where
       let class : is_of_test (x.head n) ≡ false = class-kind (row_at (tree_of plan) n).kind fits in
       subst (λ (t : Bool). IsOpenedBy (cond t (finishing scripts x n (scripts.test_result a) s)
       (cond (ended_well scripts x n a s) (opening_left scripts x n a s) (barring scripts x n (frames_left scripts x n a s) (opening_left scripts x n a s))))) (sym class)
-      (either a held (ended_well scripts x n a s))
+      (either a held (ended_well scripts x n a s) refl)
   first-left b fits held (Open fs) e same = absurd cc
   first-left b fits held (Barred fs) e same = absurd cc
   first-left b fits held (Closing fs a) e same = absurd cc

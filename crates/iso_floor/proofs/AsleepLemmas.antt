@@ -47,7 +47,7 @@ use Rattle.iso_suites.proofs.Progressing.{progress-laws}
 use Rattle.iso_suites.specs.ScriptLanguage.{scripts}
 use Rattle.iso_floor.proofs.DeskLemmas.{desk-none}
 
-more-laws : (b : BookView) → IsTree (tree_of b.plan) → ProgressLaws scripts (suite_in b)
+pub more-laws : (b : BookView) → IsTree (tree_of b.plan) → ProgressLaws scripts (suite_in b)
 more-laws b tree = progress-laws (tree_of b.plan) tree b.plan.settings (started b.world)
 
 -- in each state of a run each node's owner is one of its workers
@@ -116,7 +116,7 @@ module _ (b : BookView) (places : List Place) (at : (n : ℕ) → IsAt b n (plac
       absurd (rest-unfinished ((state_in b).nodes.status n) (may-shut b w n none).rests is)
 
 -- a worker that is kept as one that waits is kept
-awaits-below : (ms : List Member) (w : ℕ) → awaits (member_of ms w) ≡ true → w < length ms
+pub awaits-below : (ms : List Member) (w : ℕ) → awaits (member_of ms w) ≡ true → w < length ms
 awaits-below ms w e =
     elim (cases_lt w (length ms)) [
       | inl low ↦ low

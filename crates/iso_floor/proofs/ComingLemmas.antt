@@ -5,7 +5,7 @@ use Rattle.std.proofs.lemmas.List.{get_or_past}
 use Rattle.std.proofs.Math.Dec.{eqb}
 use Rattle.std.specs.Option.{option_or}
 use Rattle.iso_book.specs.Books.{BookView, new_book, refusal_in, state_in, suite_in}
-use Rattle.iso_book.specs.Progress.{HasEntered, HasGoneOn, HasShut, StayEntered, has_come, owner_in, phase_in}
+use Rattle.iso_book.specs.Progress.{HasEntered, HasGoneOn, HasShut, StayEntered, owner_in, phase_in}
 use Rattle.iso_book.specs.Turns.{IsFaultOf, IsNotTaken, IsRefusedBy}
 use Rattle.iso_desk.specs.Places.{place_of}
 use Rattle.iso_desk.specs.declared.place.Place.{Place}

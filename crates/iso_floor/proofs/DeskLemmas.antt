@@ -22,6 +22,7 @@ use Rattle.iso_plan.specs.KeyGroups.{lead_locks}
 use Rattle.iso_plan.specs.Paths.{IsTree}
 use Rattle.iso_plan.specs.Planned.{Planned}
 use Rattle.iso_plan.specs.RowView.{tree_of}
+use Rattle.iso_plan.specs.Tree.{Row}
 use Rattle.iso_settings.specs.Worlds.{Start}
 use Rattle.iso_standing.specs.declared.event.Event.{Event}
 use Rattle.iso_standing.specs.declared.event.Event.TheVariants.{Enter, Shut}
@@ -32,6 +33,10 @@ use Rattle.iso_floor.proofs.PlaceLemmas.{moved-put}
 use Rattle.iso_floor.proofs.PostingLemmas.{closed-alike, closed-kept, closed-left, closed-new, closed-same, closed-stopped, closes-put, opens-kept, opens-moved, posted-first, posted-kept, posted-opened, put-there}
 use Rattle.iso_floor.proofs.TakenLemmas.{marks-after, marks-left, marks-new, marks-same}
 use Rattle.iso_floor.proofs.WaitLemmas.{enter-none}
+
+-- who stands in a line of a key takes that key so, as before
+pub rightly : (s t : SchedulerView) (tree : List Row) → KeepsLines s t → WaitRightly tree s.table.places → WaitRightly tree t.table.places
+rightly s t tree lines right n l st = right n l (lines n l st)
 
 module _ (plan : Planned) (start : Start) (workers : ℕ) where
   -- a step of the scheduler alone
@@ -146,7 +151,7 @@ module _ (plan : Planned) (start : Start) (workers : ℕ) where
           book = subst (IsBookOf plan start workers) (sym taken) (record { plan_is = d.book.plan_is; world_is = d.book.world_is; workers_are = d.book.workers_are });
           scheduler = sizes (length plan.rows) workers d.scheduler;
           marks = marks;
-          lines = lines plan.rows d.lines;
+          lines = rightly s u plan.rows lines d.lines;
           places = places;
           stands = stands;
           owners = owners;

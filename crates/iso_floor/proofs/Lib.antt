@@ -10,6 +10,7 @@ pub mod HintLemmas
 pub mod KeyLemmas
 pub mod LeadLemmas
 pub mod LooseLemmas
+pub mod NeverAsleep
 pub mod PlaceLemmas
 pub mod PostingLemmas
 pub mod NextLemmas
@@ -19,9 +20,11 @@ pub mod NodeTrays
 pub mod Outcomes
 pub mod OwnerLemmas
 pub mod PartyLemmas
+pub mod RemainderLemmas
 pub mod RightLemmas
 pub mod SchedulerLemmas
 pub mod Sharing
 pub mod SuccessionLemmas
 pub mod TakenLemmas
+pub mod UntouchedLemmas
 pub mod WaitLemmas

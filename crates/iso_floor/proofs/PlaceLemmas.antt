@@ -1,5 +1,5 @@
 -- Which nodes have the place of one that was entered, after a node's place has changed.
-use Rattle.std.proofs.Common.{◌≡◌, ◌≢◌, ℕ, ◌<◌, List, [], length, set, Result, Ok, Err, OnErr, OnOk, Bool, true, false, cond, is_some, ap, sym, subst, ◌∙◌, inl, inr, refl}
+use Rattle.std.proofs.Common.{◌≡◌, ℕ, List, [], length, set, Result, Ok, Err, OnErr, OnOk, Bool, true, false, cond, is_some, ap, sym, subst, ◌∙◌, inl, inr, refl}
 use Rattle.std.proofs.lemmas.Bool.{cases_eq, cases_lt}
 use Rattle.std.proofs.lemmas.List.{get_or-set_other, get_or-set_same, get_or_past, set_past}
 use Rattle.iso_desk.specs.Places.{TableView, headed, line_in, lined_up, moved, place_of}

@@ -8,7 +8,7 @@ use Rattle.iso_book.specs.Progress.{HasGoneOn, phase_in}
 use Rattle.iso_desk.specs.Places.{TableView, headed, line_in, lined_up, moved, place_of}
 use Rattle.iso_desk.specs.declared.line.Line.{Line}
 use Rattle.iso_desk.specs.declared.place.Place.{Place}
-use Rattle.iso_desk.specs.declared.place.Place.TheVariants.{Closed, InLine, Loose, Open, Over, With}
+use Rattle.iso_desk.specs.declared.place.Place.TheVariants.{Closed, InLine, Loose, Open}
 use Rattle.iso_floor.specs.Desks.{AreClosed, IsAt}
 use Rattle.iso_floor.specs.Postings.{ArePosted, ClosesNone, ComesLater, IsPosted}
 use Rattle.iso_floor.specs.Schedulers.{IsMoved, SchedulerView, is_entered, next_taken, put}
@@ -34,7 +34,6 @@ use Rattle.iso_plan.specs.RowView.{tree_of}
 use Rattle.iso_settings.specs.Worlds.{Start}
 use Rattle.iso_standing.specs.Phases.{bare, phase_of}
 use Rattle.iso_standing.specs.declared.event.Event.TheVariants.{Enter}
-use Rattle.iso_standing.specs.declared.phase.Phase.{Phase}
 use Rattle.iso_standing.specs.declared.phase.Phase.TheVariants as P
 use Rattle.iso_suites.specs.ScriptLanguage.{scripts}
 use Rattle.iso_floor.proofs.ComingLemmas.{open-phase}

@@ -45,6 +45,12 @@ next-moved plan class count old new overs (inr all) = inr all
 sizes-kept : (s t : SchedulerView) → KeepsSizes s t → IsFor (length s.table.places) s.table.workers t
 sizes-kept s t sizes = sizes (length s.table.places) s.table.workers (record { nodes_are = refl; workers_are = refl })
 
+-- a class has its owner still
+pub owner-kept : (n : ℕ) (s t : SchedulerView) → t.owners ≡ s.owners → KeepsSizes s t → HasOwner s.owners s.table.workers n → HasOwner t.owners t.table.workers n
+owner-kept n s t owners sizes has =
+    subst (λ (os : List (Option ℕ)). HasOwner os t.table.workers n) (sym owners)
+    (subst (λ (k : ℕ). HasOwner s.owners k n) (sym (sizes-kept s t sizes).workers_are) has)
+
 -- a step that opens no class up, and after which none is over of those that may count
 module _ (but was : ℕ → Type 0) (plan : Planned) (s t : SchedulerView) (sizes : KeepsSizes s t) (closes : ClosesNone s.table.places t.table.places)
     (opens : (m : ℕ) → place_of t.table.places m ≡ Open → place_of s.table.places m ≡ Open) (owners : t.owners ≡ s.owners) where

@@ -10,8 +10,10 @@ pub mod KeyMarks
 pub mod Nexts
 pub mod Parties
 pub mod Postings
+pub mod Remainders
 pub mod Schedulers
 pub mod Seats
 pub mod Successions
 pub mod Turning
+pub mod Untouched
 pub mod Workers

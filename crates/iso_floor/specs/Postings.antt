@@ -1,5 +1,5 @@
 -- Which children of an open class are Closed.
-use Rattle.std.specs.Prelude.{◌≡◌, ◌≢◌, ◌<◌, ℕ, List, length}
+use Rattle.std.specs.Prelude.{◌≡◌, ◌≢◌, ℕ, List, length}
 use Rattle.iso_desk.specs.Places.{place_of}
 use Rattle.iso_desk.specs.declared.place.Place.{Place}
 use Rattle.iso_desk.specs.declared.place.Place.TheVariants.{Closed, Open, Over}

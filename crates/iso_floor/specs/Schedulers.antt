@@ -12,8 +12,9 @@
 -- (`ClosesNone`), that each CONCURRENT child of an open class was posted (`IsPosted`, `ArePosted`),
 -- and that a node comes later (`ComesLater`); that the SAME_THREAD children of open classes come one
 -- after another (`ComeInTurn`), so that one that is Closed comes after one that isn't over
--- (`ArePreceded`). No public clause cites it.
--- Also in: `Nexts`, `Parties`, `Postings`, `Successions`.
+-- (`ArePreceded`); that some child of an open class isn't over (`HaveLeft`). No public clause cites
+-- it.
+-- Also in: `Nexts`, `Parties`, `Postings`, `Remainders`, `Successions`.
 use Rattle.std.specs.Prelude.{◌≡◌, ◌≢◌, ◌<◌, ◌==◌, ℕ, List, Option, None, Some, Bool, true, false, cond, is_some, length, not}
 use Rattle.iso_desk.specs.Crews.{HasNothing}
 use Rattle.iso_desk.specs.Places.{StandsIn, TableView, line_in, moved, place_of}
@@ -39,8 +40,9 @@ use Rattle.iso_plan.specs.Tree.{Row}
 use Rattle.iso_plan.specs.declared.lock.Lock.{Lock}
 
 -- the table, what is kept of each worker, which keys held nodes take, how often nodes were posted,
--- and by node the owner of a class that was opened up, and how many of its children were looked at
--- for the next that its owner alone may enter
+-- by node the owner of a class that was opened up, how many of its children were looked at for the
+-- next that its owner alone may enter, and how many aren't over; and whether a node was entered
+-- while it stood in a line
 pub record SchedulerView : Type 0 where
   pub table : TableView
   pub members : List Member
@@ -48,6 +50,8 @@ pub record SchedulerView : Type 0 where
   pub rounds : ℕ
   pub owners : List (Option ℕ)
   pub passed : List ℕ
+  pub left : List ℕ
+  pub bypassed : Bool
 
 -- a scheduler is of `nodes` nodes and `workers` workers
 pub record IsFor (nodes workers : ℕ) (s : SchedulerView) : Type 0 where
@@ -113,10 +117,10 @@ WaitRightly tree places = (n : ℕ) (l : KeyLine) → StandsIn places (Key l) n 
 abbrev pub KeepsSizes : (old new : SchedulerView) → Type 0
 KeepsSizes old new = (nodes workers : ℕ) → IsFor nodes workers old → IsFor nodes workers new
 
--- a step puts no node in a line whose key it doesn't take with the line's access, or is no lead
+-- a step puts no node in a line of a key: who stands in one stood there
 abbrev pub KeepsLines : (old new : SchedulerView) → Type 0
-KeepsLines old new = (tree : List Row) → WaitRightly tree old.table.places
-    → WaitRightly tree new.table.places
+KeepsLines old new = (n : ℕ) (l : KeyLine) → StandsIn new.table.places (Key l) n
+    → StandsIn old.table.places (Key l) n
 
 -- a step puts no node in a line that isn't its party's
 abbrev pub KeepsStands : (old new : SchedulerView) → Type 0

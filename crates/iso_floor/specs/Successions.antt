@@ -70,7 +70,7 @@ abbrev pub HasNext : Planned → ℕ → ℕ → List Place → Type 0
 HasNext plan class count places =
     GoesOn plan class count places ⊎ (length (children (tree_of plan) class) ≤ count)
 
--- a class has an owner, which is one of so many workers
+-- a class has an owner, which is one of the workers, who are `workers`
 pub record HasOwner (owners : List (Option ℕ)) (workers class : ℕ) : Type 0 where
   pub owner : ℕ
   pub is : owner_of owners class ≡ Some owner

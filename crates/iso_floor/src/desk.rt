@@ -2,20 +2,22 @@
 ghost use Rattle.std.specs.Prelude.{◌≡◌, ◌<◌, ◌⊎◌, ℕ, IfOk, IfSome, IsTrue, MatchResult, None, OnOk, false, length, not, true};
 ghost use Rattle.iso_book.specs.Books.{BookView};
 ghost use Rattle.iso_book.specs.Leaves.{IsLeft, IsNotLeft, MayBring, after_leave};
+ghost use Rattle.iso_book.specs.Progress.{phase_in};
 ghost use Rattle.iso_book.specs.Turns.{GoesOnWith, IsEntered, IsNotTaken, IsShut, IsTaken, MayEnterWith, ReadsStart};
 ghost use Rattle.iso_desk.specs.Crews.{awaits, member_of};
 ghost use Rattle.iso_floor.specs.Answering.{HasRun, has_changed};
-ghost use Rattle.iso_floor.specs.Asleep.{AreWorkers, CanShutNone, IsAsleep, IsEnterLeft, IsShutLeft};
+ghost use Rattle.iso_floor.specs.Asleep.{AreWorkers, CanShutNone, IsAsleep, IsEnterLeft, IsShutLeft, NoneIsWith};
 ghost use Rattle.iso_floor.specs.Desks.{CanEnterNone, IsOpenFor};
 ghost use Rattle.iso_floor.specs.Grounds.{IsBookOf, IsTrayOf};
 ghost use Rattle.iso_floor.specs.Parties.{MayTry};
 ghost use Rattle.iso_floor.specs.Postings.{ClosesNone, IsPosted};
-ghost use Rattle.iso_floor.specs.Schedulers.{KeepsLines, KeepsPlaces, KeepsSizes, KeepsStands};
+ghost use Rattle.iso_floor.specs.Schedulers.{KeepsLines, KeepsPlaces, KeepsSizes, KeepsStands, loose_in};
 ghost use Rattle.iso_floor.specs.Successions.{ArePreceded};
 ghost use Rattle.iso_locks.specs.Trays.{is_lent};
 ghost use Rattle.iso_plan.specs.HeldNodes.{takes_in};
 ghost use Rattle.iso_plan.specs.KeyGroups.{lead_locks};
 ghost use Rattle.iso_standing.specs.CodeEvents.{refused_of};
+ghost use Rattle.iso_standing.specs.declared.phase.Phase.TheVariants.{Waiting};
 
 use crate::ground::Ground;
 use crate::hints::Hints;
@@ -67,7 +69,9 @@ impl<'a, G: Ground> Model for Desk<'a, G> {
     ghost use Rattle.iso_book.specs.Books.{book_code};
     ghost use Rattle.iso_floor.specs.Desks.{DeskView, IsDesk};
     ghost use Rattle.iso_floor.specs.Grounds.{IsTrayOf};
+    ghost use Rattle.iso_floor.specs.Remainders.{HaveLeft};
     ghost use Rattle.iso_floor.specs.Successions.{ComeInTurn};
+    ghost use Rattle.iso_floor.specs.Untouched.{AreUntouched};
 
     ghost Value = { DeskView };
 
@@ -78,6 +82,8 @@ impl<'a, G: Ground> Model for Desk<'a, G> {
     ghost invariant = { λ d. record {
       desk : IsDesk G.plan G.start G.workers d.book d.scheduler;
       turns : 0 < G.workers → d.book.stopped ≡ false → ComeInTurn G.plan d.scheduler;
+      left : 0 < G.workers → d.book.stopped ≡ false → HaveLeft G.plan d.scheduler;
+      fresh : d.scheduler.bypassed ≡ false → AreUntouched d.book d.scheduler.table.places;
       seats : length d.places.items ≡ G.workers;
       first : IsTrayOf G.plan G.start d.first;
     } };
@@ -116,7 +122,8 @@ impl<'a, G: Ground> Desk<'a, G> {
     /// called, no worker that waits and wasn't called could enter a node in its own lines or in
     /// everyone's, or one that was entered, or shut a class in its own line; and where all wait, no
     /// body is under way and the run isn't over, something is left that one of them could enter or
-    /// shut.
+    /// shut. If besides no node is with a worker, and none was entered while it stood in a line, a
+    /// node is `Loose`: it lies in a deque, or is in a hand.
     #[inline(always)]
     pub(crate) fn wakes(&mut self) -> Wakes
         ensures book { self.new.book ≡ self.old.book }
@@ -126,6 +133,8 @@ impl<'a, G: Ground> Desk<'a, G> {
             → awaits (member_of self.old.scheduler.members w) ≡ true → CanShutNone self.old w }
         ensures asleep { result.worker ≡ None → IsAsleep self.old
             → IsEnterLeft self.old ⊎ IsShutLeft self.old }
+        ensures never { result.worker ≡ None → IsAsleep self.old → NoneIsWith self.old
+            → self.old.scheduler.bypassed ≡ false → 0 < loose_in self.old.scheduler.table.places }
     {
         laws::nodes_are_a_tree(self.book.plan());
         let _history = self.book.history();
@@ -263,8 +272,20 @@ impl<'a, G: Ground> Desk<'a, G> {
         requires own { MayTry G.plan self.old.scheduler.owners node worker }
         ensures { self.new.book ≡ self.old.book }
     {
+        if !self.is_waiting(node) {
+            return Ok(());
+        }
         self.scheduler
             .wait_for(self.book.plan(), node, lock, worker)
+    }
+
+    // Whether a node waits to be entered: it isn't held, and has no outcome.
+    fn is_waiting(&self, node: u32) -> bool
+        ensures { result ≡ true → phase_in self.now.book node ≡ Waiting }
+    {
+        node < self.book.plan().len()
+            && !self.book.held().is_held(node)
+            && self.book.outcome(node).is_none()
     }
 
     /// Opens a class up for its owner, that is open in the book, and posts what may run beside
@@ -436,6 +457,8 @@ fn post_root(
     ensures keys { scheduler.new.keys ≡ scheduler.old.keys }
     ensures owners { scheduler.new.owners ≡ scheduler.old.owners }
     ensures passed { scheduler.new.passed ≡ scheduler.old.passed }
+    ensures left { scheduler.new.left ≡ scheduler.old.left }
+    ensures bypassed { scheduler.new.bypassed ≡ scheduler.old.bypassed }
     ensures stands { KeepsStands scheduler.old scheduler.new }
     ensures closes { ClosesNone scheduler.old.table.places scheduler.new.table.places }
     ensures posted { OnOk result (0 < length seats.old.items → 0 < length plan.now.rows

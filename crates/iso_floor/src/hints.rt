@@ -52,13 +52,8 @@ impl Takers {
 impl Hints {
     /// Of a plan, none. It takes all memory that its calls need, and goes over all lead locks.
     pub(crate) fn new(alloc: Global, plan: &Plan) -> Result<Hints, AllocError> {
-        let takers = takers_of(alloc, plan)?;
-        let mut places = Vec::with_capacity(alloc, plan.len() as usize)?;
-        for node in 0..plan.len() {
-            places.push(place_of(plan.lead_locks(node), &takers, plan.len()))?;
-        }
         Ok(Hints {
-            places,
+            places: places_of(alloc, plan)?,
             keys: vec![in alloc; 0; plan.len() as usize]?,
         })
     }
@@ -92,6 +87,19 @@ impl Hints {
         }
         Some(lock)
     }
+}
+
+/// The places of a plan's nodes: one for all, where there is no key but the global one.
+fn places_of(alloc: Global, plan: &Plan) -> Result<Vec<u32>, AllocError> {
+    if plan.key_count() == 1 {
+        return vec![in alloc; 0; plan.len() as usize];
+    }
+    let takers = takers_of(alloc, plan)?;
+    let mut places = Vec::with_capacity(alloc, plan.len() as usize)?;
+    for node in 0..plan.len() {
+        places.push(place_of(plan.lead_locks(node), &takers, plan.len()))?;
+    }
+    Ok(places)
 }
 
 /// How the nodes of a plan take each key.

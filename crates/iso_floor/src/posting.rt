@@ -22,6 +22,8 @@ pub(crate) fn post_children(
     ensures keys { scheduler.new.keys ≡ scheduler.old.keys }
     ensures owners { scheduler.new.owners ≡ scheduler.old.owners }
     ensures passed { scheduler.new.passed ≡ scheduler.old.passed }
+    ensures left { scheduler.new.left ≡ scheduler.old.left }
+    ensures bypassed { scheduler.new.bypassed ≡ scheduler.old.bypassed }
     ensures stands { KeepsStands scheduler.old scheduler.new }
     ensures closes { ClosesNone scheduler.old.table.places scheduler.new.table.places }
     ensures posted { OnOk result (class < length plan.now.rows

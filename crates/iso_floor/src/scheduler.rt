@@ -26,18 +26,21 @@
 //!     of everyone's is on offer, and no node lies in a deque, as far as it has seen.
 //! 11. Every turn, Leave and stop ends with a call, a Leave and the turn in the same hold of the
 //!     lock with one: one worker that waits, wasn't called, and has something to wake for.
-ghost use Rattle.std.specs.Prelude.{◌≡◌, ◌≢◌, ◌<◌, ◌≤◌, ◌+◌, ◌^◌, ◌==◌, ℕ, List, [], IfOk, IfSome, IsTrue, MatchOption, None, OnErr, OnOk, Some, cond, false, length, not, slice_set, true};
+ghost use Rattle.std.specs.Prelude.{◌≡◌, ◌≢◌, ◌<◌, ◌≤◌, ◌+◌, ◌^◌, ◌==◌, ℕ, List, [], IfOk, IfSome, IsTrue, MatchOption, None, OnErr, OnOk, Some, cond, false, length, not, slice_set, true, ◌||◌, ◌-◌, is_some};
 ghost use Rattle.std.specs.Bool.{Decides};
 ghost use Rattle.iso_desk.specs.Crews.{awaits, called, looking, member_of, waiting};
 ghost use Rattle.iso_desk.specs.Lines.{IsLineOf};
 ghost use Rattle.iso_desk.specs.Marking.{has, room};
-ghost use Rattle.iso_desk.specs.Places.{headed, line_in, lined_up, place_of};
+ghost use Rattle.iso_desk.specs.Places.{StandsIn, headed, line_in, lined_up, place_of};
+ghost use Rattle.iso_desk.specs.declared.line.KeyLine.{KeyLine};
+ghost use Rattle.iso_desk.specs.declared.line.Line.TheVariants.{Key};
 ghost use Rattle.iso_desk.specs.declared.place.Place.TheVariants.{Closed, Loose, Open, Over, With};
 ghost use Rattle.iso_floor.specs.KeyMarks.{AreRenewed};
 ghost use Rattle.iso_floor.specs.Nexts.{HasNone, IsNextNode};
 ghost use Rattle.iso_floor.specs.Schedulers.{HasNothingIn, IsFor, IsFree, IsMoved, KeepsLines, KeepsPlaces, KeepsSizes, KeepsStands, WaitRightly, is_entered, is_loose, loose_in, next_taken, put, waiting_line};
 ghost use Rattle.iso_floor.specs.Parties.{IsOwned, MayTry, StandRightly, owner_of};
 ghost use Rattle.iso_floor.specs.Postings.{ClosesNone};
+ghost use Rattle.iso_floor.specs.Remainders.{HaveLeft, HaveLeftBut, left_in};
 ghost use Rattle.iso_floor.specs.Successions.{ComeInTurn, ComeInTurnBut, HasOwner, is_open, passed_in};
 ghost use Rattle.iso_lifecycle.specs.declared.kind.BodyKind.TheVariants.{BeforeAll};
 ghost use Rattle.iso_model.specs.declared.script.Mode.TheVariants.{Concurrent};
@@ -45,6 +48,7 @@ ghost use Rattle.iso_plan.specs.HeldNodes.{takes_in};
 ghost use Rattle.iso_plan.specs.KeyGroups.{lead_locks};
 ghost use Rattle.iso_plan.specs.KeyTable.{keys};
 ghost use Rattle.iso_plan.specs.Modes.{mode};
+ghost use Rattle.iso_plan.specs.Paths.{children, column};
 ghost use Rattle.iso_plan.specs.Planned.{Planned};
 ghost use Rattle.iso_plan.specs.RowView.{tree_of};
 ghost use Rattle.iso_plan.specs.Tree.{Row};
@@ -91,6 +95,8 @@ pub(crate) struct Scheduler {
     lined: usize,
     /// How often a class was opened up of which nodes were posted.
     rounds: u64,
+    /// Whether a node was entered while it stood in a line: somebody came from outside.
+    bypassed: bool,
 }
 
 impl Model for Scheduler {
@@ -106,6 +112,8 @@ impl Model for Scheduler {
       rounds = s.rounds;
       owners = s.owners.items;
       passed = s.passed.items;
+      left = s.left.items;
+      bypassed = s.bypassed;
     } };
 
     ghost invariant = { λ s. record {
@@ -130,6 +138,9 @@ impl Scheduler {
             → place_of s.table.places 0 ≢ Closed) }
         ensures turns { IfOk result (λ s. 0 < length plan.now.rows → 0 < workers
             → ComeInTurn plan.now s) }
+        ensures left { IfOk result (λ s. 0 < length plan.now.rows → 0 < workers
+            → HaveLeft plan.now s) }
+        ensures bypassed { IfOk result (λ s. s.bypassed ≡ false) }
     {
         let mut scheduler = Scheduler::closed(alloc, plan, workers)?;
         scheduler.open(plan, 0, FIRST_WORKER)?;
@@ -148,6 +159,8 @@ impl Scheduler {
             → StandRightly p s.owners s.table.places) }
         ensures owners { IfOk result (λ s. (n : ℕ) → owner_of s.owners n ≡ None) }
         ensures turns { IfOk result (λ s. ComeInTurn plan.now s) }
+        ensures left { IfOk result (λ s. HaveLeft plan.now s) }
+        ensures bypassed { IfOk result (λ s. s.bypassed ≡ false) }
     {
         let nodes = plan.len() as usize;
         Ok(Scheduler {
@@ -162,6 +175,7 @@ impl Scheduler {
             loose: 0,
             lined: 0,
             rounds: 0,
+            bypassed: false,
         })
     }
 
@@ -197,10 +211,15 @@ impl Scheduler {
             → place_of self.new.table.places class ≢ Closed }
         ensures turns { OnOk result (class < length plan.now.rows → owner < self.old.table.workers
             → ComeInTurn plan.now self.old → ComeInTurn plan.now self.new) }
+        ensures left { OnOk result (class < length plan.now.rows → owner < self.old.table.workers
+            → ComeInTurn plan.now self.old → HaveLeft plan.now self.old
+            → HaveLeft plan.now self.new) }
     {
         self.own(class, owner);
         self.put(class, Place::Open);
-        self.go_on_in(plan, class)
+        self.go_on_in(plan, class)?;
+        // A child is left, which no contract says.
+        self.end_after_last(class)
     }
 
     /// A node lies in a deque from now on.
@@ -294,6 +313,8 @@ impl Scheduler {
         ensures lines { (tree : List Row)
             → takes_in lock.access lock.key (lead_locks tree node) ≡ true
             → WaitRightly tree self.old.table.places → WaitRightly tree self.new.table.places }
+        ensures joins { (n : ℕ) (l : KeyLine) → n ≢ node
+            → StandsIn self.new.table.places (Key l) n → StandsIn self.old.table.places (Key l) n }
         ensures places { KeepsPlaces self.old self.new }
         ensures stands { MayTry plan.now self.old.owners node worker
             → StandRightly plan.now self.old.owners self.old.table.places
@@ -322,6 +343,8 @@ impl Scheduler {
         ensures place { self.new ≡ record self.old {
           table = put node (With worker) self.old.table;
           keys = self.new.keys;
+          bypassed = self.old.bypassed
+              || is_some (line_in (place_of self.old.table.places node));
         } }
         ensures keys { node < length plan.now.rows → AreRenewed (tree_of plan.now) held.now.held
             (lead_locks (tree_of plan.now) node) self.old.keys self.new.keys }
@@ -329,6 +352,7 @@ impl Scheduler {
         ensures sizes { KeepsSizes self.old self.new }
         ensures lines { KeepsLines self.old self.new }
     {
+        self.bypassed = self.bypassed || self.place(node).is_in_line();
         self.put(node, Place::With(worker));
         self.renew(plan, held, node);
     }
@@ -369,6 +393,9 @@ impl Scheduler {
             → StandRightly plan.now self.new.owners self.new.table.places }
         ensures closes { ClosesNone self.old.table.places self.new.table.places }
         ensures turns { OnOk result (ComeInTurn plan.now self.old → ComeInTurn plan.now self.new) }
+        ensures left { OnOk result (ComeInTurn plan.now self.old → HaveLeft plan.now self.old
+            → HaveLeft plan.now self.new) }
+        ensures bypassed { self.new.bypassed ≡ self.old.bypassed }
     {
         match kind {
             BodyKind::BeforeAll => {
@@ -403,6 +430,7 @@ impl Scheduler {
           table = self.new.table;
           keys = self.new.keys;
           passed = self.new.passed;
+          left = self.new.left;
         } }
         ensures sizes { KeepsSizes self.old self.new }
         ensures lines { KeepsLines self.old self.new }
@@ -412,6 +440,8 @@ impl Scheduler {
             → StandRightly plan.now self.new.owners self.new.table.places }
         ensures closes { ClosesNone self.old.table.places self.new.table.places }
         ensures turns { OnOk result (ComeInTurn plan.now self.old → ComeInTurn plan.now self.new) }
+        ensures left { OnOk result (ComeInTurn plan.now self.old → HaveLeft plan.now self.old
+            → HaveLeft plan.now self.new) }
     {
         let class = parent_of(plan, node);
         self.end(plan, held, node, class);
@@ -424,7 +454,11 @@ impl Scheduler {
         ensures keys { node < length plan.now.rows → AreRenewed (tree_of plan.now) held.now.held
             (lead_locks (tree_of plan.now) node) self.old.keys self.new.keys }
         ensures past { length plan.now.rows ≤ node → self.new.keys ≡ self.old.keys }
-        ensures rest { self.new ≡ record self.old { table = self.new.table; keys = self.new.keys } }
+        ensures rest { self.new ≡ record self.old {
+          table = self.new.table;
+          keys = self.new.keys;
+          left = slice_set self.old.left class (left_in self.old.left class - 1);
+        } }
         ensures sizes { KeepsSizes self.old self.new }
         ensures lines { KeepsLines self.old self.new }
         ensures places { IsMoved node Over self.old.table.places
@@ -453,6 +487,8 @@ impl Scheduler {
         ensures turns { OnOk result (ComeInTurnBut (λ m. m ≡ class) plan.now self.old
             → (mode (tree_of plan.now) plan.now.settings node ≡ Concurrent
             → ComeInTurn plan.now self.old) → ComeInTurn plan.now self.new) }
+        ensures left { OnOk result (ComeInTurnBut (λ m. m ≡ class) plan.now self.old
+            → HaveLeftBut (λ m. m ≡ class) plan.now self.old → HaveLeft plan.now self.new) }
     {
         if !is_open(self.place(class)) {
             return Ok(());
@@ -472,6 +508,9 @@ impl Scheduler {
         ensures places { KeepsPlaces self.old self.new }
         ensures stands { KeepsStands self.old self.new }
         ensures closes { ClosesNone self.old.table.places self.new.table.places }
+        ensures ended { OnOk result (HasOwner self.old.owners self.old.table.workers class
+            → place_of self.old.table.places class ≡ Open → 0 < class
+            → left_in self.old.left class ≡ 0 → place_of self.new.table.places class ≢ Open) }
     {
         if class > 0 && self.left(class) == 0 {
             self.give_to_owner(class, class)
@@ -690,7 +729,9 @@ impl Scheduler {
 
     /// One child of a class more is over.
     fn count_child(&mut self, class: u32)
-        ensures { self.new ≡ self.old }
+        ensures { self.new ≡ record self.old {
+          left = slice_set self.old.left class (left_in self.old.left class - 1);
+        } }
     {
         if let Some(left) = self.left.get_mut(class as usize) {
             *left = left.saturating_sub(1);
@@ -698,8 +739,15 @@ impl Scheduler {
     }
 
     /// How many children of a class aren't over.
-    fn left(&self, class: u32) -> usize {
-        self.left.get(class as usize).copied().unwrap_or(0)
+    fn left(&self, class: u32) -> usize
+        ensures { result ≡ left_in self.now.left class }
+    {
+        let class = class as usize;
+        if class < self.left.len() {
+            self.left[class]
+        } else {
+            0
+        }
     }
 
     /// How many children of a class were looked at for the next that its owner alone may enter.
@@ -714,7 +762,7 @@ impl Scheduler {
         }
     }
 
-    /// So many children of a class were looked at.
+    /// The first `count` children of a class were looked at.
     fn pass(&mut self, class: u32, count: usize)
         ensures { self.new ≡ record self.old {
           passed = slice_set self.old.passed class count;
@@ -780,9 +828,12 @@ impl Scheduler {
 }
 
 /// How many children each node has.
-fn left_of(alloc: Global, plan: &Plan) -> Result<Vec<usize>, AllocError> {
+fn left_of(alloc: Global, plan: &Plan) -> Result<Vec<usize>, AllocError>
+    ensures { IfOk result (λ left. left.items
+        ≡ column (λ n. length (children (tree_of plan.now) n)) (length plan.now.rows)) }
+{
     let mut left = Vec::with_capacity(alloc, plan.len() as usize)?;
-    for node in 0..plan.len() {
+    'nodes: for node in 0..plan.len() {
         left.push(plan.children(node).len())?;
     }
     Ok(left)

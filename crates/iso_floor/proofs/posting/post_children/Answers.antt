@@ -1,12 +1,13 @@
 use Rattle.std.proofs.Common.{◌≡◌, ◌≢◌, ◌<◌, ◌+◌, ℕ, ap, get_or, length, refl, subst, sym, true, ◌∙◌}
-use Rattle.iso_desk.specs.Places.{place_of}
+use Rattle.iso_desk.specs.declared.line.Line.TheVariants.{Key}
+use Rattle.iso_desk.specs.Places.{StandsIn, place_of}
 use Rattle.iso_desk.specs.declared.place.Place.TheVariants.{Closed, Loose}
 use Rattle.iso_floor.specs.Parties.{StandRightly}
 use Rattle.iso_floor.specs.Postings.{ClosesNone, IsPosted}
-use Rattle.iso_floor.specs.Schedulers.{IsFor, SchedulerView, WaitRightly, is_entered}
+use Rattle.iso_floor.specs.Schedulers.{IsFor, SchedulerView, is_entered}
 use Rattle.iso_model.specs.declared.script.Mode.TheVariants.{Concurrent, SameThread}
 use Rattle.iso_floor.proofs.PartyLemmas.{child-told}
-use Rattle.iso_floor.proofs.PostingLemmas.{PostedBelow, closes-put, posted-all, posted-more, posted-none, put-there}
+use Rattle.iso_floor.proofs.PostingLemmas.{PostedBelow, closes-put, posted-all, posted-more, put-there}
 use Rattle.iso_floor.proofs.posting.post_children.Goals as goal
 use Rattle.iso_floor.proofs.posting.post_children.Goals.{then-is_concurrent+else-is_err, else-is_concurrent}
 
@@ -29,7 +30,7 @@ children-preserved c =
           subst (λ (s : SchedulerView). ClosesNone cur.table.places s.table.places) (sym posted.step) (closes-put cur.table child Loose (λ f. cc)) in
           record {
             sizes = λ nodes workers f. subst (IsFor nodes workers) (sym w.scheduler-is) (posted.sizes nodes workers (before.sizes nodes workers f));
-            lines = λ tree right. subst (λ (s : SchedulerView). WaitRightly tree s.table.places) (sym w.scheduler-is) (posted.lines tree (before.lines tree right));
+            lines = λ n l st. before.lines n l (posted.lines n l (subst (λ (s : SchedulerView). StandsIn s.table.places (Key l) n) w.scheduler-is st));
             places = λ n e.
                 let there : is_entered (place_of w.post-then-is_concurrent.new.self.table.places n) ≡ true =
                 subst (λ (s : SchedulerView). is_entered (place_of s.table.places n) ≡ true) w.scheduler-is e in
@@ -38,6 +39,8 @@ children-preserved c =
             keys = ap (λ (s : SchedulerView). s.keys) (w.scheduler-is ∙ posted.step) ∙ before.keys;
             owners = ap (λ (s : SchedulerView). s.owners) (w.scheduler-is ∙ posted.step) ∙ before.owners;
             passed = ap (λ (s : SchedulerView). s.passed) (w.scheduler-is ∙ posted.step) ∙ before.passed;
+            left = ap (λ (s : SchedulerView). s.left) (w.scheduler-is ∙ posted.step) ∙ before.left;
+            bypassed = ap (λ (s : SchedulerView). s.bypassed) (w.scheduler-is ∙ posted.step) ∙ before.bypassed;
             stands = λ p right. subst (λ (s : SchedulerView). StandRightly p s.owners s.table.places) (sym w.scheduler-is) (posted.stands p (before.stands p right));
             closes = λ n e. before.closes n (put_loose n (ap (λ (s : SchedulerView). place_of s.table.places n) (sym w.scheduler-is) ∙ e));
             posted = λ sizes.
@@ -49,13 +52,15 @@ children-preserved c =
       | else-is_concurrent w ↦
           record {
             sizes = λ nodes workers f. subst (IsFor nodes workers) (sym w.scheduler-is) (before.sizes nodes workers f);
-            lines = λ tree right. subst (λ (s : SchedulerView). WaitRightly tree s.table.places) (sym w.scheduler-is) (before.lines tree right);
+            lines = λ n l st. before.lines n l (subst (λ (s : SchedulerView). StandsIn s.table.places (Key l) n) w.scheduler-is st);
             places = λ n e.
                 ap (λ (s : SchedulerView). place_of s.table.places n) w.scheduler-is
                 ∙ before.places n (subst (λ (s : SchedulerView). is_entered (place_of s.table.places n) ≡ true) w.scheduler-is e);
             keys = ap (λ (s : SchedulerView). s.keys) w.scheduler-is ∙ before.keys;
             owners = ap (λ (s : SchedulerView). s.owners) w.scheduler-is ∙ before.owners;
             passed = ap (λ (s : SchedulerView). s.passed) w.scheduler-is ∙ before.passed;
+            left = ap (λ (s : SchedulerView). s.left) w.scheduler-is ∙ before.left;
+            bypassed = ap (λ (s : SchedulerView). s.bypassed) w.scheduler-is ∙ before.bypassed;
             stands = λ p right. subst (λ (s : SchedulerView). StandRightly p s.owners s.table.places) (sym w.scheduler-is) (before.stands p right);
             closes = λ n e. before.closes n (ap (λ (s : SchedulerView). place_of s.table.places n) (sym w.scheduler-is) ∙ e);
             posted = λ sizes.
@@ -67,7 +72,7 @@ children-preserved c =
 
 pub returns-then-class-gt0-clause-lines : goal.returns-then-class-gt0-clause-lines
 returns-then-class-gt0-clause-lines c =
-    λ tree right. subst (λ (s : SchedulerView). WaitRightly tree s.table.places) (sym c.count_round.ensures.same) (c.children.invariant.lines tree right)
+    λ n l st. c.children.invariant.lines n l (subst (λ (s : SchedulerView). StandsIn s.table.places (Key l) n) c.count_round.ensures.same st)
 
 pub returns-then-class-gt0-clause-places : goal.returns-then-class-gt0-clause-places
 returns-then-class-gt0-clause-places c =

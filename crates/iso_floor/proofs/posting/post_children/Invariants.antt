@@ -12,6 +12,8 @@ invariant-children l = record {
   keys : l.scheduler.keys ≡ l.fn.scheduler.keys;
   owners : l.scheduler.owners ≡ l.fn.scheduler.owners;
   passed : l.scheduler.passed ≡ l.fn.scheduler.passed;
+  left : l.scheduler.left ≡ l.fn.scheduler.left;
+  bypassed : l.scheduler.bypassed ≡ l.fn.scheduler.bypassed;
   stands : KeepsStands l.fn.scheduler l.scheduler;
   closes : ClosesNone l.fn.scheduler.table.places l.scheduler.table.places;
   posted : length l.fn.scheduler.table.places ≡ length l.plan.rows → PostedBelow l.plan l.child-items l.child-index l.scheduler.table.places;

@@ -7,6 +7,10 @@ use Rattle.iso_lifecycle.specs.declared.kind.BodyKind.{BodyKind}
 use Rattle.iso_standing.specs.declared.event.Event.TheVariants.{Leave}
 use Rattle.iso_floor.proofs.DeskLemmas.{desk-left, desk-stopped}
 use Rattle.iso_floor.proofs.SuccessionLemmas.{ok-told, turns-by, was-stopped}
+use Rattle.iso_floor.proofs.RemainderLemmas.{left-by}
+use Rattle.iso_floor.proofs.UntouchedLemmas.{untouched-left, untouched-stopped}
+use Rattle.iso_floor.specs.Successions.{ComeInTurn}
+use Rattle.iso_plan.specs.Planned.{Planned}
 use Rattle.iso_floor.proofs.desk.Desk.leave.Goals as goal
 
 pub invariant_of-self-then-is_err : goal.invariant_of-self-then-is_err
@@ -27,6 +31,11 @@ invariant_of-self-then-is_err g c =
     record {
       desk = desk-stopped g.G.Ground.plan g.G.Ground.start g.G.Ground.workers a c.stop.new.self c.leave-left.new.self c.stop.ensures is;
       turns = λ some on. absurd (was-stopped a c.stop.new.self c.stop.ensures on);
+      left = λ some on. absurd (was-stopped a c.stop.new.self c.stop.ensures on);
+      fresh = λ none.
+          untouched-stopped a c.stop.new.self c.leave-left.new.self.table.places c.stop.ensures
+          (untouched-left b a (Leave c.args.worker) left.event.book c.kind-kind.result c.node-node.result progress i.scheduler c.leave-left.new.self step.lines step.closes
+          (c.self.invariant.fresh (sym step.bypassed ∙ none)));
       seats = c.self.invariant.seats;
       first = c.self.invariant.first;
     }
@@ -50,8 +59,16 @@ invariant_of-self-else-is_err g c =
     record {
       desk = is;
       turns = λ some on.
-          turns-by g.G.Ground.plan c.plan-2.result.now plans i.scheduler c.leave-left.new.self (ok-told c.leave-left.result (sym c.is_err.ensures ∙ c.if-is_err.false) step.turns)
+          turns-by g.G.Ground.plan c.plan-2.result.now plans i.scheduler c.leave-left.new.self (ok-told c.leave-left.result (sym c.is_err.ensures.value ∙ c.if-is_err.false) step.turns)
           (c.self.invariant.turns some (sym (ap (λ (x : BookView). x.stopped) left.event.book) ∙ on));
+      left = λ some on.
+          let on-before = sym (ap (λ (x : BookView). x.stopped) left.event.book) ∙ on in
+          left-by g.G.Ground.plan c.plan-2.result.now plans i.scheduler c.leave-left.new.self
+          (ok-told c.leave-left.result (sym c.is_err.ensures.value ∙ c.if-is_err.false) step.left (subst (λ (x : Planned). ComeInTurn x i.scheduler) (sym plans) (c.self.invariant.turns some on-before)))
+          (c.self.invariant.left some on-before);
+      fresh = λ none.
+          untouched-left b a (Leave c.args.worker) left.event.book c.kind-kind.result c.node-node.result progress i.scheduler c.leave-left.new.self step.lines step.closes
+          (c.self.invariant.fresh (sym step.bypassed ∙ none));
       seats = c.self.invariant.seats;
       first = c.self.invariant.first;
     }

@@ -5,6 +5,8 @@ use Rattle.iso_floor.specs.Schedulers.{SchedulerView}
 use Rattle.iso_standing.specs.declared.event.Event.TheVariants.{Shut}
 use Rattle.iso_floor.proofs.DeskLemmas.{desk-shut}
 use Rattle.iso_floor.proofs.SuccessionLemmas.{turns-put}
+use Rattle.iso_floor.proofs.RemainderLemmas.{left-put}
+use Rattle.iso_floor.proofs.UntouchedLemmas.{closes-put-in, untouched-shut}
 use Rattle.iso_floor.proofs.desk.Desk.shut.Goals as goal
 
 pub invariant_of-self-2 : goal.invariant_of-self-2
@@ -22,6 +24,13 @@ invariant_of-self-2 g c =
           turns-put g.G.Ground.plan i.scheduler c.shut.new.self c.args.class (With c.args.worker) (λ f. cc) (λ f. cc) (λ f. cc) step.sizes (ap (λ (x : SchedulerView). x.table) step.step)
           (ap (λ (x : SchedulerView). x.owners) step.step) (ap (λ (x : SchedulerView). x.passed) step.step)
           (c.self.invariant.turns some (sym (ap (λ (x : BookView). x.stopped) shut.event.book) ∙ on));
+      left = λ some on.
+          left-put g.G.Ground.plan i.scheduler c.shut.new.self c.args.class (With c.args.worker) (λ f. cc) (λ f. cc) (ap (λ (x : SchedulerView). x.table) step.step) (ap (λ (x : SchedulerView). x.left) step.step)
+          (c.self.invariant.left some (sym (ap (λ (x : BookView). x.stopped) shut.event.book) ∙ on));
+      fresh = λ none.
+          untouched-shut i.book c.shut_own.new.self c.args.worker c.args.class shut.event.book shut.progress shut.event.is_allowed.allowed i.scheduler c.shut.new.self step.lines
+          (closes-put-in i.scheduler c.shut.new.self c.args.class c.args.worker (ap (λ (x : SchedulerView). x.table) step.step))
+          (c.self.invariant.fresh (sym (ap (λ (x : SchedulerView). x.bypassed) step.step) ∙ none));
       seats = c.self.invariant.seats;
       first = c.self.invariant.first;
     }

@@ -2,6 +2,8 @@ use Rattle.std.proofs.Common.{◌<◌, ℕ, subst, sym}
 use Rattle.iso_floor.proofs.AsleepLemmas.{desk-shuts}
 use Rattle.iso_floor.proofs.DeskLemmas.{desk-members, desk-none}
 use Rattle.iso_floor.proofs.SuccessionLemmas.{turns-members}
+use Rattle.iso_floor.proofs.RemainderLemmas.{left-members}
+use Rattle.iso_floor.proofs.UntouchedLemmas.{untouched-members}
 use Rattle.iso_floor.proofs.desk.Desk.stays.Goals as goal
 
 pub invariant_of-self : goal.invariant_of-self
@@ -10,6 +12,8 @@ invariant_of-self g c =
     record {
       desk = desk-members g.G.Ground.plan g.G.Ground.start g.G.Ground.workers i.book i.scheduler c.stays.new.self c.stays.ensures.rest c.stays.ensures.sizes c.self.invariant.desk;
       turns = λ some on. turns-members g.G.Ground.plan i.scheduler c.stays.new.self c.stays.ensures.rest c.stays.ensures.sizes (c.self.invariant.turns some on);
+      left = λ some on. left-members g.G.Ground.plan i.scheduler c.stays.new.self c.stays.ensures.rest (c.self.invariant.left some on);
+      fresh = λ none. untouched-members i.book i.scheduler c.stays.new.self c.stays.ensures.rest none c.self.invariant.fresh;
       seats = c.self.invariant.seats;
       first = c.self.invariant.first;
     }

@@ -1,9 +1,14 @@
-use Rattle.std.proofs.Common.{◌≡◌, ◌∙◌, subst, sym}
+use Rattle.std.proofs.Common.{◌≡◌, ◌∙◌, subst, sym, ap}
 use Rattle.iso_floor.specs.Desks.{DeskView}
 use Rattle.iso_floor.specs.Parties.{MayTry, StandRightly}
 use Rattle.iso_plan.specs.Planned.{Planned}
 use Rattle.iso_floor.proofs.DeskLemmas.{desk-table}
 use Rattle.iso_floor.proofs.SuccessionLemmas.{turns-table}
+use Rattle.iso_floor.proofs.RemainderLemmas.{left-table}
+use Rattle.iso_floor.proofs.UntouchedLemmas.{untouched-waits}
+use Rattle.iso_book.specs.Progress.{phase_in}
+use Rattle.iso_standing.specs.declared.phase.Phase.TheVariants.{Waiting}
+use Rattle.iso_floor.specs.Schedulers.{SchedulerView}
 use Rattle.iso_floor.proofs.desk.Desk.wait_for.Goals as goal
 
 pub invariant_of-self : goal.invariant_of-self
@@ -22,6 +27,11 @@ invariant_of-self g c =
       turns = λ some on.
           turns-table g.G.Ground.plan i.scheduler c.wait_for.new.self c.wait_for.ensures.rest c.wait_for.ensures.sizes c.wait_for.ensures.closes c.wait_for.ensures.places
           (c.self.invariant.turns some on);
+      left = λ some on. left-table g.G.Ground.plan i.scheduler c.wait_for.new.self c.wait_for.ensures.rest c.wait_for.ensures.places (c.self.invariant.left some on);
+      fresh = λ none.
+          untouched-waits i.book n i.scheduler c.wait_for.new.self c.wait_for.ensures.joins c.wait_for.ensures.closes
+          (subst (λ (d : DeskView). phase_in d.book n ≡ Waiting) (sym c.self.view_is) (c.is_waiting.ensures c.if-not-is_waiting.false))
+          (c.self.invariant.fresh (sym (ap (λ (x : SchedulerView). x.bypassed) c.wait_for.ensures.rest) ∙ none));
       seats = c.self.invariant.seats;
       first = c.self.invariant.first;
     }

@@ -1,6 +1,9 @@
 use Rattle.iso_floor.proofs.AsleepLemmas.{desk-left-asleep, desk-shuts}
 use Rattle.iso_floor.proofs.DeskLemmas.{desk-members, desk-none, none-told}
+use Rattle.iso_floor.proofs.NeverAsleep.{desk-never}
 use Rattle.iso_floor.proofs.SuccessionLemmas.{turns-members}
+use Rattle.iso_floor.proofs.RemainderLemmas.{left-members}
+use Rattle.iso_floor.proofs.UntouchedLemmas.{untouched-members}
 use Rattle.iso_floor.proofs.desk.Desk.wakes.Goals as goal
 
 pub invariant_of-self : goal.invariant_of-self
@@ -9,6 +12,8 @@ invariant_of-self g c =
     record {
       desk = desk-members g.G.Ground.plan g.G.Ground.start g.G.Ground.workers i.book i.scheduler c.call.new.self c.call.ensures.marked c.call.ensures.sizes c.self.invariant.desk;
       turns = λ some on. turns-members g.G.Ground.plan i.scheduler c.call.new.self c.call.ensures.marked c.call.ensures.sizes (c.self.invariant.turns some on);
+      left = λ some on. left-members g.G.Ground.plan i.scheduler c.call.new.self c.call.ensures.marked (c.self.invariant.left some on);
+      fresh = λ none. untouched-members i.book i.scheduler c.call.new.self c.call.ensures.marked none c.self.invariant.fresh;
       seats = c.self.invariant.seats;
       first = c.self.invariant.first;
     }
@@ -33,3 +38,10 @@ returns-clause-asleep g c =
     rw (← c.self.view_is) (λ none asleep.
     desk-left-asleep g.G.Ground.plan g.G.Ground.start g.G.Ground.workers i.book i.scheduler c.self.invariant.desk c.plan.result.now c.nodes_are_a_tree.ensures c.plan.ensures
     c.history-history.ensures.run c.is_over-is_over.result (none-told c.call.result _ _ c.call.ensures.whom none) asleep)
+
+pub returns-clause-never : goal.returns-clause-never
+returns-clause-never g c =
+    let i = c.self.inside in
+    rw (← c.self.view_is) (λ none asleep free straight.
+    desk-never g.G.Ground.plan g.G.Ground.start g.G.Ground.workers i.book i.scheduler c.self.invariant.desk c.plan.result.now c.nodes_are_a_tree.ensures c.plan.ensures
+    c.history-history.ensures.run c.is_over-is_over.result (none-told c.call.result _ _ c.call.ensures.whom none) c.self.invariant.turns c.self.invariant.left (c.self.invariant.fresh straight) asleep free)

@@ -10,6 +10,7 @@ use Rattle.iso_floor.proofs.LooseLemmas.{all-closed}
 use Rattle.iso_floor.specs.Parties.{owner_of}
 use Rattle.iso_floor.proofs.PartyLemmas.{none-owned, stand-closed}
 use Rattle.iso_floor.specs.Successions.{passed_in}
+use Rattle.iso_floor.proofs.RemainderLemmas.{left-first}
 use Rattle.iso_floor.proofs.SuccessionLemmas.{none-passed, turns-first}
 use Rattle.iso_floor.proofs.scheduler.Scheduler.closed.Goals as goal
 
@@ -42,4 +43,9 @@ returns-clause-turns c =
     (ap (λ (os : List (Option ℕ)). length os) owners ∙ length-replicate c.len-nodes.result None ∙ c.len-nodes.ensures)
     (ap (λ (ps : List ℕ). length ps) passed ∙ length-replicate c.len-nodes.result 0 ∙ c.len-nodes.ensures)
     (λ m. ap (λ (ps : List ℕ). passed_in ps m) passed ∙ none-passed c.len-nodes.result m)
+    (λ m. ap (λ (t : TableView). is_entered (place_of t.places m)) c.in_ok-new.ensures ∙ ap is_entered (all-closed c.len.result m))
+
+pub returns-clause-left : goal.returns-clause-left
+returns-clause-left c =
+    left-first c.args.plan.now _ c.in_ok-left_of.ensures
     (λ m. ap (λ (t : TableView). is_entered (place_of t.places m)) c.in_ok-new.ensures ∙ ap is_entered (all-closed c.len.result m))

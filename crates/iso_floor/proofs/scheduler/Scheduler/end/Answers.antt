@@ -1,5 +1,7 @@
 use Rattle.std.proofs.Common.{subst, sym}
-use Rattle.iso_floor.specs.Schedulers.{IsMoved, SchedulerView, WaitRightly}
+use Rattle.iso_desk.specs.Places.{StandsIn}
+use Rattle.iso_desk.specs.declared.line.Line.TheVariants.{Key}
+use Rattle.iso_floor.specs.Schedulers.{IsMoved, SchedulerView}
 use Rattle.iso_desk.specs.declared.place.Place.TheVariants.{Over}
 use Rattle.iso_floor.specs.Parties.{StandRightly}
 use Rattle.iso_floor.specs.Postings.{ClosesNone}
@@ -8,9 +10,9 @@ use Rattle.iso_floor.proofs.scheduler.Scheduler.end.Goals as goal
 
 pub returns-clause-lines : goal.returns-clause-lines
 returns-clause-lines c =
-    λ tree right.
-    subst (λ (s : SchedulerView). WaitRightly tree s.table.places) (sym c.count_child.ensures)
-    (subst (λ (s : SchedulerView). WaitRightly tree s.table.places) (sym c.renew.ensures.rest) (c.put.ensures.lines tree right))
+    λ n l st.
+    c.put.ensures.lines n l
+    (subst (λ (s : SchedulerView). StandsIn s.table.places (Key l) n) c.renew.ensures.rest (subst (λ (s : SchedulerView). StandsIn s.table.places (Key l) n) c.count_child.ensures st))
 
 pub returns-clause-places : goal.returns-clause-places
 returns-clause-places c =

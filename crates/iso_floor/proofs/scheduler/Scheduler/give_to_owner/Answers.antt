@@ -1,5 +1,5 @@
 use Rattle.std.proofs.Common.{sym, ◌∙◌}
-use Rattle.iso_floor.proofs.RightLemmas.{right-after, right-headed}
+use Rattle.iso_floor.proofs.RightLemmas.{line-after, line-headed}
 use Rattle.iso_desk.specs.declared.line.Line.TheVariants.{Own}
 use Rattle.iso_floor.proofs.PlaceLemmas.{keeps-headed}
 use Rattle.iso_floor.proofs.PartyLemmas.{stand-after, stand-headed}
@@ -10,8 +10,7 @@ pub returns-clause-lines : goal.returns-clause-lines
 returns-clause-lines c =
     let given = c.line_up_first in
     let t = c.args.self.now.table in
-    λ tree right.
-    right-after given.result tree c.args.self.now given.new.self _ given.ensures.stands given.ensures.same (right-headed tree t c.args.node c.in-Some.owner) right
+    λ n l st. line-after given.result c.args.self.now given.new.self _ given.ensures.stands given.ensures.same n l (line-headed t c.args.node c.in-Some.owner n l) st
 
 pub returns-clause-places : goal.returns-clause-places
 returns-clause-places c =

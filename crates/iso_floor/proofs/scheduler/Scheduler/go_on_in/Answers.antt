@@ -1,6 +1,7 @@
 use Rattle.std.proofs.Common.{◌≡◌, ◌≢◌, ◌<◌, ℕ, List, None, ap, get_or, inr, length, set, subst, sym, ◌∙◌}
-use Rattle.iso_floor.specs.Schedulers.{IsFor, KeepsSizes, SchedulerView, WaitRightly}
-use Rattle.iso_desk.specs.Places.{line_in, place_of}
+use Rattle.iso_desk.specs.declared.line.Line.TheVariants.{Key}
+use Rattle.iso_floor.specs.Schedulers.{IsFor, KeepsSizes, SchedulerView}
+use Rattle.iso_desk.specs.Places.{StandsIn, line_in, place_of}
 use Rattle.iso_floor.specs.Parties.{StandRightly, owner_of}
 use Rattle.iso_floor.specs.Successions.{AreConcurrent, HasOwner, IsAlone, passed_in}
 use Rattle.iso_model.specs.declared.script.Mode.TheVariants.{SameThread}
@@ -13,10 +14,10 @@ use Rattle.iso_floor.proofs.scheduler.Scheduler.go_on_in.Goals as goal
 
 pub returns-in-Some-clause-lines : goal.returns-in-Some-clause-lines
 returns-in-Some-clause-lines c =
-    λ tree right. c.give_to_owner.ensures.lines tree (subst (λ (s : SchedulerView). WaitRightly tree s.table.places) (sym c.pass.ensures) right)
+    λ n l st. subst (λ (s : SchedulerView). StandsIn s.table.places (Key l) n) c.pass.ensures (c.give_to_owner.ensures.lines n l st)
 
 pub returns-in-None-clause-lines : goal.returns-in-None-clause-lines
-returns-in-None-clause-lines c = λ tree right. subst (λ (s : SchedulerView). WaitRightly tree s.table.places) (sym c.pass-in-None.ensures) right
+returns-in-None-clause-lines c = λ n l st. subst (λ (s : SchedulerView). StandsIn s.table.places (Key l) n) c.pass-in-None.ensures st
 
 pub returns-in-Some-clause-places : goal.returns-in-Some-clause-places
 returns-in-Some-clause-places c = λ n e. c.give_to_owner.ensures.places n e ∙ ap (λ (s : SchedulerView). place_of s.table.places n) c.pass.ensures

@@ -7,7 +7,7 @@ use Rattle.iso_floor.proofs.PlaceLemmas.{moved-first}
 use Rattle.iso_floor.proofs.scheduler.Scheduler.new.Goals as goal
 
 pub returns-clause-lines : goal.returns-clause-lines
-returns-clause-lines c = λ tree. c.open.ensures.lines tree (c.in_ok-scheduler.ensures.lines tree)
+returns-clause-lines c = λ tree n l st. c.in_ok-scheduler.ensures.lines tree n l (c.open.ensures.lines n l st)
 
 pub returns-clause-places : goal.returns-clause-places
 returns-clause-places c = moved-first _ _ 0 Open c.in_ok-scheduler.ensures.places c.open.ensures.places
@@ -33,3 +33,8 @@ pub returns-clause-turns : goal.returns-clause-turns
 returns-clause-turns c =
     let closed = c.in_ok-scheduler.ensures in
     λ some manned. c.in_ok-open.ensures.turns some (subst (λ (k : ℕ). 0 < k) (sym closed.sizes.workers_are) manned) closed.turns
+
+pub returns-clause-left : goal.returns-clause-left
+returns-clause-left c =
+    let closed = c.in_ok-scheduler.ensures in
+    λ some manned. c.in_ok-open.ensures.left some (subst (λ (k : ℕ). 0 < k) (sym closed.sizes.workers_are) manned) closed.turns closed.left

@@ -1,9 +1,10 @@
 use Rattle.std.proofs.Common.{◌<◌, ◌^◌, ℕ, ap, length, refl, subst, sym, ◌∙◌}
-use Rattle.iso_desk.specs.Places.{IsFirst, TableView}
+use Rattle.iso_desk.specs.declared.line.Line.TheVariants.{Key}
+use Rattle.iso_desk.specs.Places.{IsFirst, StandsIn, TableView}
 use Rattle.iso_desk.specs.declared.place.Place.TheVariants.{Loose}
-use Rattle.iso_floor.specs.Schedulers.{SchedulerView, WaitRightly, loose_in}
+use Rattle.iso_floor.specs.Schedulers.{SchedulerView, loose_in}
 use Rattle.iso_floor.proofs.LooseLemmas.{left-line, line-room}
-use Rattle.iso_floor.proofs.RightLemmas.{right-moved}
+use Rattle.iso_floor.proofs.RightLemmas.{line-moved}
 use Rattle.iso_floor.proofs.SchedulerLemmas.{stands-within}
 use Rattle.iso_floor.proofs.PlaceLemmas.{Keeps, keeps-set}
 use Rattle.iso_floor.proofs.scheduler.Scheduler.next_for.Goals as goal
@@ -33,9 +34,9 @@ invariant_of-self c =
 pub returns-clause-lines : goal.returns-clause-lines
 returns-clause-lines c =
     let n = c.in_ok-node.node in
-    λ tree right.
-    subst (λ (t : TableView). WaitRightly tree t.places) (sym c.leave.ensures)
-    (right-moved tree c.self.inside.table n Loose refl (subst (λ (s : SchedulerView). WaitRightly tree s.table.places) (sym c.self.view_is) right))
+    λ m l st.
+    subst (λ (s : SchedulerView). StandsIn s.table.places (Key l) m) c.self.view_is
+    (line-moved c.self.inside.table n Loose refl m l (subst (λ (t : TableView). StandsIn t.places (Key l) m) c.leave.ensures st))
 
 pub returns-clause-places : goal.returns-clause-places
 returns-clause-places c =

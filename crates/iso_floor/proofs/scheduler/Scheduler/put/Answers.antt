@@ -1,8 +1,9 @@
 use Rattle.std.proofs.Common.{◌<◌, ◌^◌, ap, length, subst, sym, ◌∙◌}
-use Rattle.iso_desk.specs.Places.{TableView}
-use Rattle.iso_floor.specs.Schedulers.{IsFree, SchedulerView, WaitRightly, is_loose, loose_in}
+use Rattle.iso_desk.specs.declared.line.Line.TheVariants.{Key}
+use Rattle.iso_desk.specs.Places.{StandsIn, TableView}
+use Rattle.iso_floor.specs.Schedulers.{IsFree, SchedulerView, is_loose, loose_in}
 use Rattle.iso_floor.proofs.LooseLemmas.{has-room, recount, was-counted}
-use Rattle.iso_floor.proofs.RightLemmas.{right-moved}
+use Rattle.iso_floor.proofs.RightLemmas.{line-moved}
 use Rattle.iso_floor.proofs.SchedulerLemmas.{put-kept}
 use Rattle.iso_floor.specs.Schedulers.{IsMoved}
 use Rattle.iso_floor.proofs.PlaceLemmas.{moved-put, moved-set}
@@ -43,9 +44,9 @@ returns-else-is_free-clause-step c =
 
 pub returns-then-is_free-clause-lines : goal.returns-then-is_free-clause-lines
 returns-then-is_free-clause-lines c =
-    λ tree right.
-    subst (λ (t : TableView). WaitRightly tree t.places) (sym c.put.ensures)
-    (right-moved tree c.self.inside.table c.args.node c.args.place c.requires (subst (λ (s : SchedulerView). WaitRightly tree s.table.places) (sym c.self.view_is) right))
+    λ n l st.
+    subst (λ (s : SchedulerView). StandsIn s.table.places (Key l) n) c.self.view_is
+    (line-moved c.self.inside.table c.args.node c.args.place c.requires n l (subst (λ (t : TableView). StandsIn t.places (Key l) n) c.put.ensures st))
 
 pub returns-then-is_free-clause-places : goal.returns-then-is_free-clause-places
 returns-then-is_free-clause-places c =

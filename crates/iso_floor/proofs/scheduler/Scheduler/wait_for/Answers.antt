@@ -2,7 +2,7 @@ use Rattle.std.proofs.Common.{ap, subst, sym, ◌∙◌}
 use Rattle.iso_model.specs.declared.access.Access.{Access}
 use Rattle.iso_plan.specs.HeldNodes.{takes_in}
 use Rattle.iso_plan.specs.KeyGroups.{lead_locks}
-use Rattle.iso_floor.proofs.RightLemmas.{access-by, right-after, right-lined}
+use Rattle.iso_floor.proofs.RightLemmas.{access-by, line-after, line-lined, right-after, right-lined}
 use Rattle.iso_floor.proofs.PlaceLemmas.{keeps-lined}
 use Rattle.iso_floor.specs.Parties.{BelongsTo}
 use Rattle.iso_floor.proofs.PartyLemmas.{stand-after, stand-lined, tried-own}
@@ -22,6 +22,12 @@ returns-clause-lines c =
       taken = ap (λ (a : Access). takes_in a k.key (lead_locks tree n)) (access-by k.access c.eq.result c.eq.ensures) ∙ takes;
     }))
     right
+
+pub returns-clause-joins : goal.returns-clause-joins
+returns-clause-joins c =
+    let lined = c.line_up in
+    λ n l other st.
+    line-after lined.result c.args.self.now lined.new.self _ lined.ensures.stands lined.ensures.same n l (line-lined c.args.self.now.table c.args.node _ n l other) st
 
 pub returns-clause-places : goal.returns-clause-places
 returns-clause-places c =
