@@ -10,8 +10,8 @@ def no_call(call):
 OPENED_TWICE = [
     (
         "iso_floor/src/desk.rt",
-        "        post_children(&mut self.scheduler, plan, class, owner)?;\n        self.scheduler.open",
-        "        post_children(&mut self.scheduler, plan, class, owner)?;\n        if WRONG {\n            post_children(&mut self.scheduler, plan, class, owner)?;\n        }\n        self.scheduler.open",
+        "        post_children(&mut self.scheduler, plan, class, owner)?;\n        let opened",
+        "        post_children(&mut self.scheduler, plan, class, owner)?;\n        if WRONG {\n            post_children(&mut self.scheduler, plan, class, owner)?;\n        }\n        let opened",
     )
 ]
 BROUGHT_ANYWHERE = [("iso_floor/src/turn.rt", "if !desk.is_loose(node) {", "if !WRONG && !desk.is_loose(node) {")]
