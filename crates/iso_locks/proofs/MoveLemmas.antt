@@ -154,52 +154,58 @@ by_away : (w : Bool) (t : Option History) → w ≡ true → None ≡ cond w Non
 by_away true t e = refl
 by_away false t e = absurd (cc)
 
-by_left : (w : Bool) (t h : Option History) → w ≡ false → h ≡ None → None ≡ cond w (option_or t h) h
-by_left true t h e none = absurd (cc)
-by_left false t h e none = sym none
+by_first : (w : Bool) (t h : Option History) → w ≡ false → h ≡ cond w (option_or t h) h
+by_first true t h e = absurd (cc)
+by_first false t h e = refl
 
-by_kept : (w : Bool) (t h : Option History) → w ≡ false → h ≡ None → option_or t h ≡ cond w None t
-by_kept true t h e none = absurd (cc)
-by_kept false None h e none = none
-by_kept false (Some v) h e none = refl
+by_kept : (w : Bool) (t : Option History) → w ≡ false → t ≡ cond w None t
+by_kept true t e = absurd (cc)
+by_kept false t e = refl
 
 off-first : (i : ℕ) → suc i ≢ 0
 off-first i same = omega arith
 
-here-at : (ls : List Lock) (there here : Slots) → ((i : ℕ) → slot here i ≡ None) → AreAllButFirst (length there) ls → (i : ℕ) → i < length there
-    → slot (set there 0 None) i ≡ cond (is_written ls i) (option_or (slot there i) (slot here i)) (slot here i)
-here-at ls there here none all zero h = get_or-set_same there 0 None None h ∙ by_left (is_written ls 0) (slot there 0) (slot here 0) all.first (none 0)
-here-at ls there here none all (suc i) h =
-    get_or-set_other there 0 (suc i) None None (off-first i) ∙ by_all (is_written ls (suc i)) (slot there (suc i)) (slot here (suc i)) (all.others (suc i) (omega arith) h) (none (suc i))
+-- nothing is from the second slot on
+abbrev NoneBehind : Slots → Type 0
+NoneBehind xs = (i : ℕ) → 1 ≤ i → slot xs i ≡ None
 
-away-at : (ls : List Lock) (there here : Slots) → length there ≡ length here → ((i : ℕ) → slot here i ≡ None) → AreAllButFirst (length there) ls → (i : ℕ) → i < length there
-    → slot (set here 0 (option_or (slot there 0) (slot here 0))) i ≡ cond (is_written ls i) None (slot there i)
+here-at : (ls : List Lock) (there here : Slots) → NoneBehind here → AreAllButFirst (length there) ls → (i : ℕ) → i < length there
+    → slot (set there 0 (slot here 0)) i ≡ cond (is_written ls i) (option_or (slot there i) (slot here i)) (slot here i)
+here-at ls there here none all zero h = get_or-set_same there 0 (slot here 0) None h ∙ by_first (is_written ls 0) (slot there 0) (slot here 0) all.first
+here-at ls there here none all (suc i) h =
+    get_or-set_other there 0 (suc i) (slot here 0) None (off-first i)
+    ∙ by_all (is_written ls (suc i)) (slot there (suc i)) (slot here (suc i)) (all.others (suc i) (omega arith) h) (none (suc i) (omega arith))
+
+away-at : (ls : List Lock) (there here : Slots) → length there ≡ length here → NoneBehind here → AreAllButFirst (length there) ls → (i : ℕ) → i < length there
+    → slot (set here 0 (slot there 0)) i ≡ cond (is_written ls i) None (slot there i)
 away-at ls there here fits none all zero h =
     let some : 0 < length here = omega (arith, fits, h) in
-    get_or-set_same here 0 (option_or (slot there 0) (slot here 0)) None some ∙ by_kept (is_written ls 0) (slot there 0) (slot here 0) all.first (none 0)
+    get_or-set_same here 0 (slot there 0) None some ∙ by_kept (is_written ls 0) (slot there 0) all.first
 away-at ls there here fits none all (suc i) h =
-    get_or-set_other here 0 (suc i) (option_or (slot there 0) (slot here 0)) None (off-first i) ∙ none (suc i)
+    get_or-set_other here 0 (suc i) (slot there 0) None (off-first i) ∙ none (suc i) (omega arith)
     ∙ by_away (is_written ls (suc i)) (slot there (suc i)) (all.others (suc i) (omega arith) h)
 
--- all values but the first move to where none is
-pub all-here : (ls : List Lock) (there here : Slots) → length there ≡ length here → ((i : ℕ) → slot here i ≡ None) → AreAllButFirst (length there) ls
-    → set there 0 None ≡ moved_here ls there here
+-- all values but the first move to where none is but a first
+pub all-here : (ls : List Lock) (there here : Slots) → length there ≡ length here → NoneBehind here → AreAllButFirst (length there) ls → set there 0 (slot here 0) ≡ moved_here ls there here
 all-here ls there here fits none all =
-    column-from (λ i. cond (is_written ls i) (option_or (slot there i) (slot here i)) (slot here i)) (set there 0 None) (length here) (length-set there 0 None ∙ fits)
+    column-from (λ i. cond (is_written ls i) (option_or (slot there i) (slot here i)) (slot here i)) (set there 0 (slot here 0)) (length here) (length-set there 0 (slot here 0) ∙ fits)
     (λ i d h.
     let within : i < length there = omega (arith, fits, h) in
-    let inside : i < length (set there 0 None) = rw (length-set there 0 None) within in
-    get_or_default (set there 0 None) i d None inside ∙ here-at ls there here none all i within)
+    let inside : i < length (set there 0 (slot here 0)) = rw (length-set there 0 (slot here 0)) within in
+    get_or_default (set there 0 (slot here 0)) i d None inside ∙ here-at ls there here none all i within)
 
-pub all-away : (ls : List Lock) (there here : Slots) → length there ≡ length here → ((i : ℕ) → slot here i ≡ None) → AreAllButFirst (length there) ls
-    → set here 0 (option_or (slot there 0) (slot here 0)) ≡ moved_away ls there
+pub all-away : (ls : List Lock) (there here : Slots) → length there ≡ length here → NoneBehind here → AreAllButFirst (length there) ls → set here 0 (slot there 0) ≡ moved_away ls there
 all-away ls there here fits none all =
-    let value = option_or (slot there 0) (slot here 0) in
-    column-from (λ i. cond (is_written ls i) None (slot there i)) (set here 0 value) (length there) (length-set here 0 value ∙ sym fits)
+    column-from (λ i. cond (is_written ls i) None (slot there i)) (set here 0 (slot there 0)) (length there) (length-set here 0 (slot there 0) ∙ sym fits)
     (λ i d h.
     let within : i < length here = omega (arith, fits, h) in
-    let inside : i < length (set here 0 value) = rw (length-set here 0 value) within in
-    get_or_default (set here 0 value) i d None inside ∙ away-at ls there here fits none all i h)
+    let inside : i < length (set here 0 (slot there 0)) = rw (length-set here 0 (slot there 0)) within in
+    get_or_default (set here 0 (slot there 0)) i d None inside ∙ away-at ls there here fits none all i h)
+
+-- a first value that is taken and put again
+pub set-twice : (xs : Slots) (a b : Option History) → set (set xs 0 a) 0 b ≡ set xs 0 b
+set-twice [] a b = refl
+set-twice (x ∷ xs) a b = refl
 
 write-access : (a : Access) → is_access Write a ≡ is_writable (Some a)
 write-access Read = refl

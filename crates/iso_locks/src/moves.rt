@@ -10,8 +10,8 @@ use iso_plan::lock::Lock;
 use std::mem;
 
 /// Moves what locks for READ_WRITE are on from there to here, where it is there. `all` tells that
-/// they are on every key but the first, where that is known: if nothing is here then, it costs the
-/// same for many keys as for one. Takes no memory.
+/// they are on every key but the first, where that is known: if nothing but the first
+/// value is here then, it costs the same for many keys as for one. Takes no memory.
 pub(crate) fn move_values(locks: &[Lock], all: bool, there: &mut Slots, here: &mut Slots)
     requires fits { length there.old ≡ length here.old }
     requires within { AreWithin (length here.old) locks.now }
@@ -19,14 +19,27 @@ pub(crate) fn move_values(locks: &[Lock], all: bool, there: &mut Slots, here: &m
     ensures here { here.new ≡ moved_here locks.now there.old here.old }
     ensures there { there.new ≡ moved_away locks.now there.old }
 {
-    if all && here.has_none() {
-        mem::swap(there, here);
-        move_slot(0, here, there);
+    if all && here.has_none_from(1) {
+        swap_but_first(there, here);
         return;
     }
     'locks: for n in 0..locks.len() {
         move_locked(locks[n], there, here);
     }
+}
+
+/// Swaps all values but the first.
+fn swap_but_first(there: &mut Slots, here: &mut Slots)
+    requires there { 0 < length there.old }
+    requires here { 0 < length here.old }
+    ensures here { here.new ≡ slice_set there.old 0 (slot here.old 0) }
+    ensures there { there.new ≡ slice_set here.old 0 (slot there.old 0) }
+{
+    let first = here.take(0);
+    mem::swap(there, here);
+    let other = here.take(0);
+    here.put(0, first);
+    there.put(0, other);
 }
 
 /// Whether the first of some locks is on the second key, for READ_WRITE.

@@ -155,14 +155,21 @@ impl Slots {
         self.unchanged
     }
 
+    /// Whether there is no value from a number on.
+    pub fn has_none_from(&self, from: usize) -> bool
+        ensures { result ≡ true → (i : ℕ) → from ≤ i → slot self.now i ≡ None }
+    {
+        match (self.unchanged.next(from), self.changed.next(from)) {
+            (None, None) => true,
+            _ => false,
+        }
+    }
+
     /// Whether there is no value.
     pub fn has_none(&self) -> bool
         ensures { result ≡ true → (i : ℕ) → slot self.now i ≡ None }
     {
-        match (self.unchanged.next(0), self.changed.next(0)) {
-            (None, None) => true,
-            _ => false,
-        }
+        self.has_none_from(0)
     }
 
     /// The lowest number from one on where a value was changed.

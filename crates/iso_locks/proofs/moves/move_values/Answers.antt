@@ -1,10 +1,8 @@
-use Rattle.std.proofs.Common.{◌<◌, ◌≤◌, List, None, length, set, slice_index_or, ap, ap₂, arith, ◌∙◌}
-use Rattle.std.specs.Option.{option_or}
+use Rattle.std.proofs.Common.{◌<◌, ◌≤◌, List, length, slice_index_or, arith, ◌∙◌}
 use Rattle.std.proofs.lemmas.List.{get_or_default}
 use Rattle.iso_model.specs.declared.access.Access.TheVariants.{Read}
 use Rattle.iso_plan.specs.declared.lock.Lock.{Lock}
 use Rattle.iso_locks.proofs.MoveLemmas.{all-away, all-here, moving-all, moving-more, within-at}
-use Rattle.iso_locks.specs.Slots.{Slots, slot}
 use Rattle.iso_locks.proofs.moves.move_values.Goals as goal
 
 abbrev no_lock : Lock
@@ -54,22 +52,19 @@ returns-clause-there c =
     let all : length c.args.locks.now ≤ c.locks.n = omega arith in
     (moving-all c.args.there.now c.args.here.now c.args.locks.now c.locks.n c.locks.there c.locks.here all c.locks.invariant).0
 
-pub returns-then-has_none-clause-here : goal.returns-then-has_none-clause-here
-returns-then-has_none-clause-here c =
-    c.move_slot.ensures.there ∙ ap (λ (xs : Slots). set xs 0 None) c.swap.ensures.y_after ∙ all-here c.args.locks.now c.args.there.now c.args.here.now c.requires.fits (c.has_none.ensures c.if-has_none.true) (c.requires.all c.if-all.true)
+pub returns-then-has_none_from-clause-here : goal.returns-then-has_none_from-clause-here
+returns-then-has_none_from-clause-here c =
+    c.swap_but_first.ensures.here ∙ all-here c.args.locks.now c.args.there.now c.args.here.now c.requires.fits (c.has_none_from.ensures c.if-has_none_from.true) (c.requires.all c.if-all.true)
 
-pub returns-then-has_none-clause-there : goal.returns-then-has_none-clause-there
-returns-then-has_none-clause-there c =
-    c.move_slot.ensures.here ∙ ap₂ (λ (xs ys : Slots). set ys 0 (option_or (slot xs 0) (slot ys 0))) c.swap.ensures.y_after c.swap.ensures.x_after ∙ all-away c.args.locks.now c.args.there.now c.args.here.now c.requires.fits (c.has_none.ensures c.if-has_none.true) (c.requires.all c.if-all.true)
+pub returns-then-has_none_from-clause-there : goal.returns-then-has_none_from-clause-there
+returns-then-has_none_from-clause-there c =
+    c.swap_but_first.ensures.there ∙ all-away c.args.locks.now c.args.there.now c.args.here.now c.requires.fits (c.has_none_from.ensures c.if-has_none_from.true) (c.requires.all c.if-all.true)
 
-pub move_slot-requires-clause-there : goal.move_slot-requires-clause-there
-move_slot-requires-clause-there c =
+pub swap_but_first-requires-clause-there : goal.swap_but_first-requires-clause-there
+swap_but_first-requires-clause-there c = (c.requires.all c.if-all.true).some
+
+pub swap_but_first-requires-clause-here : goal.swap_but_first-requires-clause-here
+swap_but_first-requires-clause-here c =
     let some : 0 < length c.args.there.now = (c.requires.all c.if-all.true).some in
-    rw (ap length c.swap.ensures.y_after) some
-
-pub move_slot-requires-clause-here : goal.move_slot-requires-clause-here
-move_slot-requires-clause-here c =
-    let some : 0 < length c.args.there.now = (c.requires.all c.if-all.true).some in
-    let count = ap length c.swap.ensures.x_after in
     let same = c.requires.fits in
-    omega arith
+    omega (arith, some, same)
