@@ -29,6 +29,7 @@ impl<T: Drop> SharedList<T> {
     }
 
     /// These items.
+    #[inline]
     pub fn new(alloc: Global, items: Vec<T>) -> Result<SharedList<T>, AllocError>
         ensures { IfOk result (λ s. s ≡ items.items) }
     {
