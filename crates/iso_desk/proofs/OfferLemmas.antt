@@ -72,32 +72,6 @@ found filled held written p at b r x w h few er ex ew eh z below =
           l,
     )
 
--- the marks of the lines when the ends of one are written
-pub filled_set : (ends : List (Option Ends)) (s s' : Marks) (i : ℕ) (e : Option Ends) (b : Bool) → AreFilled ends s
-    → i < length ends → b ≡ is_some e → room s' ≡ room s → ((k : ℕ) → has s' k ≡ cond (k == i) b (has s k)) → AreFilled (set ends i e) s'
-filled_set ends s s' i e b a h same r f =
-    record {
-      room = let x = length-set ends i e in let y = a.room in omega arith;
-      each = λ j l.
-          let low : j < length ends = subst (λ (x : ℕ). j < x) (length-set ends i e) l in
-          elim (cases_eq j i) [
-            | inl q ↦
-                f j ∙ ap (λ (x : Bool). cond x b (has s j)) (eq_true j i q) ∙ same
-                ∙ sym (ap is_some (ap (λ (x : ℕ). get_or (set ends i e) x None) q ∙ get_or-set_same ends i e None h))
-            | inr o ↦
-                f j ∙ ap (λ (x : Bool). cond x b (has s j)) (eq_false j i o) ∙ a.each j low
-                ∙ sym (ap is_some (get_or-set_other ends i j e None o))
-          ];
-    }
-
--- a new table, in which nobody stands in a line
-pub new_filled : (ends : List (Option Ends)) (s : Marks) (k : ℕ) → ends ≡ replicate k None → k ≤ room s → ((n : ℕ) → has s n ≡ false) → AreFilled ends s
-new_filled ends s k e r f =
-    record {
-      room = let size : length ends ≡ k = ap length e ∙ length-replicate k None in omega arith;
-      each = λ i h. f i ∙ sym (ap is_some (ap (λ (es : List (Option Ends)). get_or es i None) e ∙ everywhere k i None));
-    }
-
 -- somebody stands in a line just where it is marked
 somebody : (at since next : ℕ → ℕ) (i : ℕ) (e : Option Ends) → IsKept at since next i e → is_some e ≡ true → (n : ℕ) × (at n ≡ i)
 somebody at since next i None k h = cc
@@ -130,7 +104,7 @@ by_use filled held written p k true f x =
 by_use filled held written p k false f x =
     ap₂ (λ (a b : Bool). (a && not b) || (has filled (576 * p + 256 + k) && not (has held k))) (ap (has filled) (sym (read_number p k)) ∙ f) x
 
-module _ (workers : ℕ) (places : List Place) (next : List ℕ) (ends : List (Option Ends)) (filled : Marks) (clock front : ℕ) (a : IsTable workers places next ends filled clock front) where
+module _ (workers : ℕ) (places : List Place) (next : List ℕ) (ends : List (Option Ends)) (filled : Marks) (clock front : ℕ) (a : IsTable workers places next ends clock front) (marked : AreFilled ends filled) where
   in_bounds : (l : Line) → IsLineOf workers l → line_number l < length ends
   in_bounds l is = subst (λ (x : ℕ). line_number l < x) (sym a.linked.lines) (number_below workers l is)
 
@@ -138,7 +112,7 @@ module _ (workers : ℕ) (places : List Place) (next : List ℕ) (ends : List (O
   waits_there l is h =
       let i = line_number l in
       let below = in_bounds l is in
-      let s = somebody (mark places) (since places) (λ k. get_or next k 0) (i + 1) (get_or ends i None) (a.linked.kept i below) (sym (a.marked.each i below) ∙ h) in
+      let s = somebody (mark places) (since places) (λ k. get_or next k 0) (i + 1) (get_or ends i None) (a.linked.kept i below) (sym (marked.each i below) ∙ h) in
       (s.0, stands workers places l s.0 (a.linked.known s.0) is s.1)
 
   is_marked : (l : Line) (n : ℕ) → StandsIn places l n → has filled (line_number l) ≡ true
@@ -146,7 +120,7 @@ module _ (workers : ℕ) (places : List Place) (next : List ℕ) (ends : List (O
       let i = line_number l in
       let is = line_known workers (line_in (place_of places n)) l (a.linked.known n) h in
       let below = in_bounds l is in
-      a.marked.each i below ∙ marked_by (mark places) (since places) (λ k. get_or next k 0) (i + 1) n (get_or ends i None) (a.linked.kept i below) (ap mark_of h)
+      marked.each i below ∙ marked_by (mark places) (since places) (λ k. get_or next k 0) (i + 1) n (get_or ends i None) (a.linked.kept i below) (ap mark_of h)
 
   key_below : (l : KeyLine) (n : ℕ) → StandsIn places (Key l) n → l.key < 256
   key_below l n h = (line_known workers (line_in (place_of places n)) (Key l) (a.linked.known n) h).1

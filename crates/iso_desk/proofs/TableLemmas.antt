@@ -2,7 +2,7 @@
 -- place in none.
 use Rattle.std.proofs.Common.{◌≡◌, ℕ, ◌+◌, ◌*◌, ◌^◌, ◌<◌, ◌≤◌, ◌≢◌, Bool, true, false, cond, List, length, get_or, set, Option, None, Some, MatchOption, sym, ap, ap₂, subst, ◌∙◌, inl, inr, arith, refl, replicate}
 use Rattle.std.proofs.lemmas.Bool.{cases_eq, cases_lt}
-use Rattle.std.proofs.lemmas.List.{get_or-set_same, get_or-set_other, get_or_past, get_or_read_under, length-replicate, length-set}
+use Rattle.std.proofs.lemmas.List.{get_or-set_same, get_or-set_other, get_or_past, length-replicate, length-set}
 use Rattle.iso_desk.specs.Lines.{IsLineOf, line_number, party_number}
 use Rattle.iso_desk.specs.Linked.{AreLinked, FirstBelow, IsKept, IsLinked, LastBelow, leading, linked, longer, mark, mark_of, shorter, since, wider}
 use Rattle.iso_desk.specs.Places.{IsFirst, StandsIn, line_in, place_of, since_in}
@@ -428,15 +428,6 @@ leaves_at workers places next ends clock l n p i x y a is first gone ex ei ey =
     (subst (λ (z : Option Ends). AreLinked workers (set places n p) next (set ends (line_number l) z) clock) (sym (ey ∙ ap (λ (o : Option Ends). shorter o next) ex))
     (leaves_linked workers places next ends clock l n p a is first gone))
 
--- what the code reads of a line is what is kept there
-pub ends_at : (workers : ℕ) (places : List Place) (next : List ℕ) (ends : List (Option Ends)) (clock : ℕ) (l : Line) (i : ℕ) (x : Option Ends)
-    → AreLinked workers places next ends clock → IsLineOf workers l → i ≡ line_number l → x ≡ get_or ends i x → x ≡ get_or ends (line_number l) None
-ends_at workers places next ends clock l i x a is ei ex =
-    let below : line_number l < 576 * (workers + 1) = number_below workers l is in
-    let known = a.lines in
-    let low : i < length ends = omega arith in
-    get_or_read_under ends i (length ends) x None ex low refl ∙ ap (λ (k : ℕ). get_or ends k None) ei
-
 -- a node that stands in no line gets another place in none
 pub put_linked : (workers : ℕ) (places : List Place) (next : List ℕ) (ends : List (Option Ends)) (clock n : ℕ) (p : Place)
     → AreLinked workers places next ends clock → n < length places → line_in (place_of places n) ≡ None → line_in p ≡ None
@@ -490,10 +481,10 @@ new_linked workers nodes places next ends ep en ee =
 
 -- the first node of a line that has any
 pub first_is : (workers : ℕ) (places : List Place) (next : List ℕ) (ends : List (Option Ends)) (clock : ℕ) (l : Line) (i : ℕ) (x : Option Ends) (e : Ends)
-    → AreLinked workers places next ends clock → IsLineOf workers l → i ≡ line_number l → x ≡ get_or ends i x → x ≡ Some e → IsFirst places l e.first
+    → AreLinked workers places next ends clock → IsLineOf workers l → i ≡ line_number l → x ≡ get_or ends i None → x ≡ Some e → IsFirst places l e.first
 first_is workers places next ends clock l i x e a is ei ex was =
     let below : line_number l < length ends = subst (λ (n : ℕ). line_number l < n) (sym a.lines) (number_below workers l is) in
-    let here : get_or ends (line_number l) None ≡ Some e = sym (ends_at workers places next ends clock l i x a is ei ex) ∙ was in
+    let here : get_or ends (line_number l) None ≡ Some e = ap (λ (k : ℕ). get_or ends k None) (sym ei) ∙ sym ex ∙ was in
     let k : IsLinked (mark places) (since places) (λ n. get_or next n 0) (line_number l + 1) e.first e.last =
     subst (IsKept (mark places) (since places) (λ n. get_or next n 0) (line_number l + 1)) here (a.kept (line_number l) below)
     in

@@ -1,9 +1,10 @@
 -- How the lines are kept: by the nodes themselves, each of which knows the one behind it.
 --
 -- how lines are kept: Along a line numbers rise, and none stands between two neighbours
--- (`IsLinked`, `AreLinked`); a line in which somebody stands is marked (`AreFilled`, `IsTable`). No
--- public clause cites it.
-use Rattle.std.specs.Prelude.{◌≡◌, ◌≤◌, ◌<◌, ◌≢◌, ℕ, ◌+◌, ◌*◌, List, Option, None, Some, MatchOption, length, cond, is_some, ◌==◌, slice_index, slice_index_or, slice_set}
+-- (`IsLinked`, `AreLinked`, `IsTable`); each line has ends where it is marked, which it is where
+-- somebody stands in it (`ends_in`, `HaveRoom`, `AreFilled`). No public clause cites it.
+use Rattle.std.specs.Prelude.{◌≡◌, ◌≤◌, ◌<◌, ◌≢◌, ℕ, ◌+◌, ◌*◌, List, Option, None, Some, MatchOption, length, cond, is_some, ◌==◌, map, slice_index, slice_index_or, slice_set}
+use Rattle.std.specs.List.{range_with_len}
 use Rattle.iso_desk.specs.Lines.{IsLineOf, line_number}
 use Rattle.iso_desk.specs.Marking.{has, room}
 use Rattle.iso_desk.specs.Places.{line_in, place_of, since_in}
@@ -55,6 +56,18 @@ pub record AreLinked (workers : ℕ) (places : List Place) (next : List ℕ) (en
   pub kept : (i : ℕ) → i < length ends → IsKept (mark places) (since places) (slice_index next)
       (i + 1) (slice_index_or ends i None)
 
+-- the ends of each line, as they are stored: by the marks of the lines in which somebody stands, and
+-- by their first and their last nodes
+abbrev pub ends_in : Marks → List ℕ → List ℕ → List (Option Ends)
+ends_in filled first last =
+    map (λ i. cond (has filled i) (Some (record { first = slice_index first i; last = slice_index last i }))
+    None) (range_with_len 0 (length first))
+
+-- there is room for each line
+pub record HaveRoom (filled : Marks) (first last : List ℕ) : Type 0 where
+  pub lines : length last ≡ length first
+  pub marks : length first ≤ room filled
+
 -- the lines in which somebody stands are marked
 pub record AreFilled (ends : List (Option Ends)) (filled : Marks) : Type 0 where
   pub room : length ends ≤ room filled
@@ -98,8 +111,7 @@ LastBelow (Some e) k = e.last < k
 
 -- a table's fields fit together
 pub record IsTable (workers : ℕ) (places : List Place) (next : List ℕ) (ends : List (Option Ends))
-    (filled : Marks) (clock front : ℕ) : Type 0 where
+    (clock front : ℕ) : Type 0 where
   pub order : front ≤ clock
   pub young : (n : ℕ) → mark places n ≢ 0 → front ≤ since places n
   pub linked : AreLinked workers places next ends clock
-  pub marked : AreFilled ends filled

@@ -6,6 +6,7 @@ pub mod count;
 pub mod crew;
 mod ends;
 pub mod line;
+mod line_ends;
 pub mod marks;
 mod offer;
 pub mod place;

@@ -14,8 +14,9 @@ ghost use Rattle.iso_desk.specs.Marking.{room};
 ghost use Rattle.iso_desk.specs.Offers.{IsLowestOffer, NothingOffered};
 ghost use Rattle.iso_desk.specs.Places.{IsEmpty, IsFirst, all_closed, headed, line_in, lined_up, moved, place_of};
 
-use crate::ends::{Ends, lead, link, longer, shorter, wider};
+use crate::ends::{lead, link, longer, shorter, wider};
 use crate::line::{Line, Party};
+use crate::line_ends::LineEnds;
 use crate::marks::Marks;
 use crate::offer::lowest_key;
 use crate::place::{Place, Stand};
@@ -32,10 +33,7 @@ pub struct Table {
     places: Vec<Place>,
     /// By node that stands in a line and isn't its last, the one behind it.
     next: Vec<u32>,
-    /// By a line's number, its first and its last node, if it has any.
-    ends: Vec<Option<Ends>>,
-    /// The lines in which somebody stands, by their numbers.
-    filled: Marks,
+    ends: LineEnds,
     /// The number of the next node that is put at the end of a line, and one more than that of the
     /// next at the front of one.
     clock: u64,
@@ -55,8 +53,7 @@ impl Model for Table {
       front = t.front;
     } };
 
-    ghost invariant = { λ t. IsTable t.workers t.places.items t.next.items t.ends.items t.filled
-        t.clock t.front };
+    ghost invariant = { λ t. IsTable t.workers t.places.items t.next.items t.ends t.clock t.front };
 }
 
 impl Table {
@@ -67,14 +64,12 @@ impl Table {
         let lines = 576 * (workers as usize + 1);
         let places = vec![in alloc; Place::Closed; nodes as usize]?;
         let next = vec![in alloc; 0; nodes as usize]?;
-        let ends = vec![in alloc; None; lines]?;
-        let filled = Marks::new(alloc, lines)?;
+        let ends = LineEnds::new(alloc, lines)?;
         Ok(Table {
             workers,
             places,
             next,
             ends,
-            filled,
             clock: MIDDLE,
             front: MIDDLE,
         })
@@ -108,7 +103,7 @@ impl Table {
         ensures { MatchOption result (IsEmpty self.now.places line)
             (λ n. IsFirst self.now.places line n) }
     {
-        let ends = self.ends[line.number()]?;
+        let ends = self.ends.get(line.number())?;
         Some(ends.first)
     }
 
@@ -124,7 +119,7 @@ impl Table {
             (NothingOffered self.now.places held.now written.now party)
             (λ k. IsLowestOffer self.now.places held.now written.now party k) }
     {
-        lowest_key(&self.filled, party.number(), held, written)
+        lowest_key(self.ends.filled(), party.number(), held, written)
     }
 
     /// Whether nobody stands in a line.
@@ -160,10 +155,9 @@ impl Table {
         };
         let since = self.clock;
         let number = line.number();
-        let ends = self.ends[number];
+        let ends = self.ends.get(number);
         link(&mut self.next, ends, node);
-        self.ends[number] = Some(longer(ends, node));
-        self.filled.set(number, true);
+        self.ends.set(number, Some(longer(ends, node)));
         self.places[node as usize] = Place::InLine(Stand { line, since });
         self.clock = clock;
         Ok(())
@@ -183,10 +177,9 @@ impl Table {
             return Err(AllocError);
         };
         let number = line.number();
-        let ends = self.ends[number];
+        let ends = self.ends.get(number);
         lead(&mut self.next, ends, node);
-        self.ends[number] = Some(wider(ends, node));
-        self.filled.set(number, true);
+        self.ends.set(number, Some(wider(ends, node)));
         self.places[node as usize] = Place::InLine(Stand { line, since: front });
         self.front = front;
         Ok(())
@@ -200,10 +193,8 @@ impl Table {
         ensures { self.new ≡ moved node place self.old }
     {
         let number = line.number();
-        let ends = self.ends[number];
-        let left = shorter(ends, &self.next);
-        self.ends[number] = left;
-        self.filled.set(number, left.is_some());
+        let ends = self.ends.get(number);
+        self.ends.set(number, shorter(ends, &self.next));
         self.places[node as usize] = place;
     }
 

@@ -10,7 +10,7 @@ lowest_key-requires c =
     let same : c.self.inside.workers ≡ c.args.self.now.workers = ap (λ (v : TableView). v.workers) c.self.view_is in
     let party : party_number c.args.party ≤ c.args.self.now.workers = c.requires.party in
     let lines = c.self.invariant.linked.lines in
-    let size = c.self.invariant.marked.room in
+    let size = c.filled.ensures.room in
     record { filled = omega (arith, c.number.ensures); held = c.requires.held; written = c.requires.written }
 
 pub returns-clause-offer : goal.returns-clause-offer
@@ -18,11 +18,11 @@ returns-clause-offer c =
     let same : c.self.inside.workers ≡ c.args.self.now.workers = ap (λ (v : TableView). v.workers) c.self.view_is in
     let party : party_number c.args.party ≤ c.args.self.now.workers = c.requires.party in
     let ours : party_number c.args.party ≤ c.self.inside.workers = omega arith in
-    let f = c.self.inside.filled in
+    let f = c.filled.result.now in
     let h = c.args.held.now in
     let w = c.args.written.now in
     subst (λ (v : TableView). MatchOption c.lowest_key.result (NothingOffered v.places h w c.args.party) (λ k. IsLowestOffer v.places h w c.args.party k)) c.self.view_is
-    (offer_from c.self.inside.workers c.self.inside.places.items c.self.inside.next.items c.self.inside.ends.items f c.self.inside.clock c.self.inside.front c.self.invariant c.args.party h w
+    (offer_from c.self.inside.workers c.self.inside.places.items c.self.inside.next.items c.self.inside.ends f c.self.inside.clock c.self.inside.front c.self.invariant c.filled.ensures c.args.party h w
     c.lowest_key.result ours
     (subst
     (λ (p : ℕ).

@@ -12,7 +12,6 @@ invariant_of-self c =
       order = c.self.invariant.order;
       young = young_set c.self.inside.places.items c.args.node c.self.inside.front c.args.place here (λ h. absurd (h (ap mark_of c.requires.place))) c.self.invariant.young;
       linked =
-          put_linked c.self.inside.workers c.self.inside.places.items c.self.inside.next.items c.self.inside.ends.items c.self.inside.clock c.args.node c.args.place
+          put_linked c.self.inside.workers c.self.inside.places.items c.self.inside.next.items c.self.inside.ends c.self.inside.clock c.args.node c.args.place
           c.self.invariant.linked here (ap (λ (v : TableView). line_in (place_of v.places c.args.node)) c.self.view_is ∙ c.requires.free) c.requires.place;
-      marked = c.self.invariant.marked;
     }
