@@ -2,6 +2,7 @@ pub mod Answered
 pub mod AsleepLemmas
 pub mod AuditLemmas
 pub mod Begun
+pub mod BusyLemmas
 pub mod ComingLemmas
 pub mod DeskLemmas
 pub mod FreeSeats

@@ -24,43 +24,52 @@ not-in-line (With w) l e = refl
 not-in-line Open l e = refl
 not-in-line Over l e = refl
 
--- another node is loose
-abbrev others : List Place → ℕ → ℕ → Bool
-others ps n m = not (m == n) && is_loose (place_of ps m)
-
 same-count : (p q : ℕ → Bool) (n : ℕ) → ((m : ℕ) → p m ≡ q m) → count p n ≡ count q n
 same-count p q zero same = refl
 same-count p q (suc n) same = ap₂ (λ (x : ℕ) (b : Bool). x + cond b 1 0) (same-count p q n same) (same n)
 
-not-itself : (ps : List Place) (n : ℕ) → others ps n n ≡ false
-not-itself ps n = rw (eq_same n) refl
+-- nodes whose places pass a test
+module _ (test : Place → Bool) where
+  abbrev pub passing : List Place → ℕ
+  passing ps = count (λ n. test (place_of ps n)) (length ps)
 
-other : (ps : List Place) (n m : ℕ) → m ≢ n → others ps n m ≡ is_loose (place_of ps m)
-other ps n m apart = rw (eq_not m n apart) refl
+  -- another node's does
+  abbrev others : List Place → ℕ → ℕ → Bool
+  others ps n m = not (m == n) && test (place_of ps m)
 
-split : (ps : List Place) (n : ℕ) → n < length ps → loose_in ps ≡ count (others ps n) (length ps) + cond (is_loose (place_of ps n)) 1 0
-split ps n h = count-more (others ps n) (λ m. is_loose (place_of ps m)) (length ps) n h (not-itself ps n) (other ps n)
+  not-itself : (ps : List Place) (n : ℕ) → others ps n n ≡ false
+  not-itself ps n = rw (eq_same n) refl
 
--- the others are the same
-others-stay : (ps : List Place) (n : ℕ) (p : Place) (m : ℕ) → others (set ps n p) n m ≡ others ps n m
-others-stay ps n p m =
-    elim (cases_eq m n) [
-      | inl same ↦ ap (others (set ps n p) n) same ∙ not-itself (set ps n p) n ∙ sym (ap (others ps n) same ∙ not-itself ps n)
-      | inr apart ↦ ap (λ (q : Place). not (m == n) && is_loose q) (get_or-set_other ps n m p Closed apart)
-    ]
+  other : (ps : List Place) (n m : ℕ) → m ≢ n → others ps n m ≡ test (place_of ps m)
+  other ps n m apart = rw (eq_not m n apart) refl
+
+  pub split : (ps : List Place) (n : ℕ) → n < length ps → passing ps ≡ count (others ps n) (length ps) + cond (test (place_of ps n)) 1 0
+  split ps n h = count-more (others ps n) (λ m. test (place_of ps m)) (length ps) n h (not-itself ps n) (other ps n)
+
+  -- the others are the same
+  others-stay : (ps : List Place) (n : ℕ) (p : Place) (m : ℕ) → others (set ps n p) n m ≡ others ps n m
+  others-stay ps n p m =
+      elim (cases_eq m n) [
+        | inl same ↦ ap (others (set ps n p) n) same ∙ not-itself (set ps n p) n ∙ sym (ap (others ps n) same ∙ not-itself ps n)
+        | inr apart ↦ ap (λ (q : Place). not (m == n) && test q) (get_or-set_other ps n m p Closed apart)
+      ]
+
+  -- a node gets another place
+  pub count-moved : (ps : List Place) (n : ℕ) (p : Place) → n < length ps → passing (set ps n p) + cond (test (place_of ps n)) 1 0 ≡ passing ps + cond (test p) 1 0
+  count-moved ps n p h =
+      let more : n < length (set ps n p) = rw (length-set ps n p) h in
+      let new : passing (set ps n p) ≡ count (others ps n) (length ps) + cond (test p) 1 0 =
+      split (set ps n p) n more
+      ∙ ap₂ (λ (x y : ℕ). x + y)
+      (ap (count (others (set ps n p) n)) (length-set ps n p) ∙ same-count (others (set ps n p) n) (others ps n) (length ps) (others-stay ps n p))
+      (ap (λ (q : Place). cond (test q) 1 0) (get_or-set_same ps n p Closed h)) in
+      let old = split ps n h in
+      omega arith
 
 -- a node gets another place
 pub loose-moved : (ps : List Place) (n : ℕ) (p : Place) → n < length ps
     → loose_in (set ps n p) + cond (is_loose (place_of ps n)) 1 0 ≡ loose_in ps + cond (is_loose p) 1 0
-loose-moved ps n p h =
-    let more : n < length (set ps n p) = rw (length-set ps n p) h in
-    let new : loose_in (set ps n p) ≡ count (others ps n) (length ps) + cond (is_loose p) 1 0 =
-    split (set ps n p) n more
-    ∙ ap₂ (λ (x y : ℕ). x + y)
-    (ap (count (others (set ps n p) n)) (length-set ps n p) ∙ same-count (others (set ps n p) n) (others ps n) (length ps) (others-stay ps n p))
-    (ap (λ (q : Place). cond (is_loose q) 1 0) (get_or-set_same ps n p Closed h)) in
-    let old = split ps n h in
-    omega arith
+loose-moved = count-moved is_loose
 
 -- the count that is kept when a node gets another place
 pub recount : (ps : List Place) (n : ℕ) (p : Place) (loose r : ℕ) (was is : Bool) → n < length ps → loose ≡ loose_in ps → was ≡ is_loose (place_of ps n) → is ≡ is_loose p
@@ -74,7 +83,7 @@ recount ps n p loose r was is h l w i e =
 -- who is loose is counted
 pub was-counted : (ps : List Place) (n loose : ℕ) (was : Bool) → n < length ps → loose ≡ loose_in ps → was ≡ is_loose (place_of ps n) → cond was 1 0 ≤ loose
 was-counted ps n loose was h l w =
-    let e = split ps n h in
+    let e = split is_loose ps n h in
     subst (λ (b : Bool). cond b 1 0 ≤ loose) (sym w) (omega arith)
 
 -- no more nodes are loose than there are

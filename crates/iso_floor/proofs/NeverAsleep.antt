@@ -1,23 +1,24 @@
 -- Where all workers wait, no node is with one, and none was entered out of a line, a node is loose.
-use Rattle.std.proofs.Common.{◌≡◌, ◌≢◌, ◌⊎◌, ℕ, zero, suc, ◌+◌, ◌<◌, ◌&&◌, ◌++◌, ◌∷◌, ◌==◌, List, [], Some, None, Bool, true, false, arith, cond, get_or, length, not, ap, sym, subst, ◌∙◌, inl, inr, refl}
+use Rattle.std.proofs.Common.{◌≡◌, ◌≢◌, ◌⊎◌, ℕ, zero, suc, ◌<◌, ◌&&◌, List, Some, None, Bool, true, false, arith, length, not, ap, sym, subst, ◌∙◌, inl, inr, refl}
 use Rattle.std.proofs.lemmas.Bool.{cases_eq, cases_lt}
-use Rattle.std.proofs.lemmas.List.{get_or_append_left, get_or_past, get_or_push, length-append}
+use Rattle.std.proofs.lemmas.List.{get_or_past}
 use Rattle.iso_book.proofs.Runs.{going-on, laws-in, may-enter, may-shut, within-shut}
 use Rattle.iso_book.specs.Books.{BookView, refusal_in, state_in, suite_in}
 use Rattle.iso_book.specs.Progress.{phase_in}
 use Rattle.iso_desk.specs.Crews.{awaits, member_of}
 use Rattle.iso_desk.specs.Places.{IsEmpty, line_in, place_of}
+use Rattle.iso_desk.specs.declared.crew.Member.{Member}
 use Rattle.iso_desk.specs.declared.line.Line.{Line}
 use Rattle.iso_desk.specs.declared.line.Line.TheVariants.{Key, Own}
 use Rattle.iso_desk.specs.declared.place.Place.{Place}
 use Rattle.iso_desk.specs.declared.place.Place.TheVariants.{Closed, InLine, Loose, Open, Over, With}
 use Rattle.iso_floor.specs.Answering.{HasRun}
-use Rattle.iso_floor.specs.Asleep.{AreWorkers, IsAsleep, IsEnterLeft, IsOfKey, IsPartyOf, IsShutLeft, IsUnfound, NamesOneOf, NoneIsWith}
+use Rattle.iso_floor.specs.Asleep.{AreWorkers, IsAsleep, IsEnterLeft, IsOfKey, IsPartyOf, IsShutLeft, IsUnfound, NamesOneOf}
 use Rattle.iso_floor.specs.Desks.{IsAt, IsDesk}
 use Rattle.iso_floor.specs.Parties.{party_in}
 use Rattle.iso_floor.specs.Postings.{ComesLater}
 use Rattle.iso_floor.specs.Remainders.{HaveLeft}
-use Rattle.iso_floor.specs.Schedulers.{HasNothingIn, SchedulerView, is_loose, loose_in}
+use Rattle.iso_floor.specs.Schedulers.{HasNothingIn, SchedulerView, is_loose, is_with, loose_in, with_in}
 use Rattle.iso_floor.specs.Successions.{ComeInTurn, HasEarlier, child_at}
 use Rattle.iso_floor.specs.Untouched.{AreUntouched, IsUntouched, is_of_key, is_past, is_untaken}
 use Rattle.iso_isolation.proofs.Barred.{path_on}
@@ -25,23 +26,24 @@ use Rattle.iso_isolation.proofs.Locks.{Locked, above_open}
 use Rattle.iso_isolation.specs.Events.{stands_in}
 use Rattle.iso_isolation.specs.Runs.{full}
 use Rattle.iso_isolation.specs.States as States
-use Rattle.iso_isolation.specs.States.{Status, first, is_at_rest, is_finished, is_open}
+use Rattle.iso_isolation.specs.States.{Status, first, is_finished, is_open}
 use Rattle.iso_model.specs.Bodies.{Stage}
 use Rattle.iso_model.specs.Openings.{Frame}
 use Rattle.iso_model.specs.declared.outcome.Outcome.{Outcome}
 use Rattle.iso_model.specs.declared.script.Mode.TheVariants.{SameThread}
-use Rattle.iso_plan.proofs.ChildLemmas.{child-below, child-is}
+use Rattle.iso_plan.proofs.ChildLemmas.{child-is}
+use Rattle.iso_plan.proofs.PathLemmas.{eq_same}
 use Rattle.iso_plan.specs.Children.{IsChild}
 use Rattle.iso_plan.specs.HeldNodes.{count}
 use Rattle.iso_plan.specs.Modes.{mode}
-use Rattle.iso_plan.specs.Paths.{IsTree, children, children_below, is_root, parent}
+use Rattle.iso_plan.specs.Paths.{IsTree, children, parent}
 use Rattle.iso_plan.specs.Planned.{Planned}
 use Rattle.iso_plan.specs.RowView.{tree_of}
-use Rattle.iso_plan.specs.Tree.{Row}
 use Rattle.iso_progress.proofs.Reaching.{reached}
 use Rattle.iso_progress.specs.NeverStuck.{IsReached}
 use Rattle.iso_settings.specs.Worlds.{Start}
 use Rattle.iso_standing.proofs.Looks.{nodes-are}
+use Rattle.iso_standing.proofs.Passing.{order-below}
 use Rattle.iso_standing.specs.CodeEvents.{events_of}
 use Rattle.iso_standing.specs.Phases.{phase_of}
 use Rattle.iso_standing.specs.declared.event.Event.TheVariants.{Enter, Shut}
@@ -53,31 +55,6 @@ use Rattle.iso_floor.proofs.AsleepLemmas.{awaits-below, desk-left-asleep, desk-w
 use Rattle.iso_floor.proofs.RemainderLemmas.{IsLeft, one-left}
 use Rattle.iso_floor.proofs.SuccessionLemmas.{preceded}
 use Rattle.iso_floor.proofs.UntouchedLemmas.{shut-not}
-
--- children stand in the order of their numbers
-rise-push : (cs : List ℕ) (l i j : ℕ) → ((k : ℕ) → k < length cs → get_or cs k 0 < l) → (j < length cs → get_or cs i 0 < get_or cs j 0) → i < j → j < length (cs ++ l ∷ [])
-    → get_or (cs ++ l ∷ []) i 0 < get_or (cs ++ l ∷ []) j 0
-rise-push cs l i j below before less h =
-    let long : length (cs ++ l ∷ []) ≡ length cs + 1 = length-append cs (l ∷ []) in
-    elim (cases_lt j (length cs)) [
-      | inl low ↦
-          let first : i < length cs = omega (arith, less, low) in
-          rw (get_or_append_left cs (l ∷ []) 0 i first, get_or_append_left cs (l ∷ []) 0 j low) (before low)
-      | inr high ↦
-          let first : i < length cs = omega (arith, less, h, long) in
-          let last : length cs ≡ j = omega (arith, h, high, long) in
-          rw (get_or_append_left cs (l ∷ []) 0 i first, get_or_push cs l 0 j last) (below i first)
-    ]
-
-rise-by : (cs : List ℕ) (l i j : ℕ) (t : Bool) → ((k : ℕ) → k < length cs → get_or cs k 0 < l) → (j < length cs → get_or cs i 0 < get_or cs j 0) → i < j
-    → j < length (cond t (cs ++ l ∷ []) cs) → get_or (cond t (cs ++ l ∷ []) cs) i 0 < get_or (cond t (cs ++ l ∷ []) cs) j 0
-rise-by cs l i j true below before less h = rise-push cs l i j below before less h
-rise-by cs l i j false below before less h = before h
-
-rise-below : (tree : List Row) (m l i j : ℕ) → i < j → j < length (children_below tree m l) → get_or (children_below tree m l) i 0 < get_or (children_below tree m l) j 0
-rise-below tree m zero i j less h = absurd (omega (arith, h))
-rise-below tree m (suc l) i j less h =
-    rise-by (children_below tree m l) l i j (not (is_root l) && parent tree l == m) (λ k low. (child-below tree m l k low).within) (rise-below tree m l i j less) less h
 
 -- who is loose is counted
 some-loose : (p : ℕ → Bool) (n m : ℕ) → m < n → p m ≡ true → 0 < count p n
@@ -210,7 +187,7 @@ module _ (b : BookView) (s : SchedulerView) (tree : IsTree (tree_of b.plan)) (ru
               let zeroth : n ≡ 0 = sym e.is ∙ get_or_past (children (tree_of b.plan) class) e.place 0 high in
               absurd ((may-enter b w n none tree).nonzero zeroth)
         ] in
-        let less : m < n = subst (λ (j : ℕ). m < j) e.is (rise-below (tree_of b.plan) class (length (tree_of b.plan)) e.earlier e.place e.before placed) in
+        let less : m < n = subst (λ (j : ℕ). m < j) e.is (order-below (tree_of b.plan) class (length (tree_of b.plan)) e.earlier e.place e.before placed) in
         let ended : phase_in b m ≡ P.Finished =
         finished-phase ((state_in b).nodes.status m)
         ((may-enter b w n none tree).earlier m less (λ z. absurd (omega (arith, pos, z))) child.parent_is (ap is_same_thread e.alone.alone) (ap is_same_thread same)) in
@@ -266,16 +243,43 @@ module _ (b : BookView) (s : SchedulerView) (tree : IsTree (tree_of b.plan)) (ru
   never-left (inl l) = enter-loose l.worker l.node l.taken l.place
   never-left (inr l) = shut-loose l.worker l.class l.taken (place_of s.table.places l.class) refl l.place
 
+-- no node is with a worker that waits
+pub free-by : (s : SchedulerView) → ((w : ℕ) → (member_of s.members w).waits ≡ true → with_in s.table.places w ≡ 0) → (n w : ℕ) → (member_of s.members w).waits ≡ true
+    → place_of s.table.places n ≢ With w
+free-by s idle n w waits e =
+    elim (cases_lt n (length s.table.places)) [
+      | inl low ↦
+          let is : is_with w (place_of s.table.places n) ≡ true = ap (is_with w) e ∙ eq_same w in
+          let some = some-loose (λ m. is_with w (place_of s.table.places m)) (length s.table.places) n low is in
+          let none = idle w waits in
+          absurd (omega (arith, some, none))
+      | inr high ↦ let wrong : Closed ≡ With w = sym (get_or_past s.table.places n Closed high) ∙ e in absurd (cc)
+    ]
+
+waits-told : (m : Member) → awaits m ≡ true → m.waits ≡ true
+waits-told m e = both-first m.waits (not m.called) e
+  where
+    both-first : (a c : Bool) → (a && c) ≡ true → a ≡ true
+    both-first true c f = refl
+    both-first false c f = absurd (cc)
+
+with-nobody : (b : BookView) (s : SchedulerView) → AreWorkers b.workers s → IsAsleep (record { book = b; scheduler = s })
+    → ((w : ℕ) → (member_of s.members w).waits ≡ true → with_in s.table.places w ≡ 0) → (n w : ℕ) → place_of s.table.places n ≢ With w
+with-nobody b s are asleep idle n w e =
+    let low : w < b.workers = subst (NamesOneOf b.workers) e (are.places n) in
+    free-by s idle n w (waits-told (member_of s.members w) (asleep.waits w low)) e
+
 -- of a desk
 pub desk-never : (plan : Planned) (start : Start) (workers : ℕ) (b : BookView) (s : SchedulerView) (d : IsDesk plan start workers b s) (p : Planned) → IsTree (tree_of p) → p ≡ b.plan → HasRun b
     → (is_over : Bool) → ((w : ℕ) → w < length s.members → awaits (member_of s.members w) ≡ true → HasNothingIn s is_over w (member_of s.members w).seen)
     → (0 < workers → b.stopped ≡ false → ComeInTurn plan s) → (0 < workers → b.stopped ≡ false → HaveLeft plan s) → AreUntouched b s.table.places
-    → IsAsleep (record { book = b; scheduler = s }) → NoneIsWith (record { book = b; scheduler = s }) → 0 < loose_in s.table.places
-desk-never plan start workers b s d p tree own run is_over nothing turn have fresh asleep free =
+    → IsAsleep (record { book = b; scheduler = s }) → ((w : ℕ) → (member_of s.members w).waits ≡ true → with_in s.table.places w ≡ 0) → 0 < loose_in s.table.places
+desk-never plan start workers b s d p tree own run is_over nothing turn have fresh asleep idle =
     let is-tree : IsTree (tree_of b.plan) = subst (λ (x : Planned). IsTree (tree_of x)) own tree in
     let some : 0 < workers = subst (λ (k : ℕ). 0 < k) d.book.workers_are asleep.manned in
     let none : (w : ℕ) → w < b.workers → IsEmpty s.table.places (Own w) =
     λ w low. (nothing w (awaits-below s.members w (asleep.waits w low)) (asleep.waits w low)).own in
-    never-left b s is-tree run asleep.manned asleep.running d.places none (subst (λ (k : ℕ). AreWorkers k s) (sym d.book.workers_are) (desk-workers plan start workers b s d p tree own run some)) free fresh
+    let are : AreWorkers b.workers s = subst (λ (k : ℕ). AreWorkers k s) (sym d.book.workers_are) (desk-workers plan start workers b s d p tree own run some) in
+    never-left b s is-tree run asleep.manned asleep.running d.places none are (λ n w e. with-nobody b s are asleep idle n w e) fresh
     (subst (λ (x : Planned). ComeInTurn x s) (sym d.book.plan_is) (turn some asleep.running)) (subst (λ (x : Planned). HaveLeft x s) (sym d.book.plan_is) (have some asleep.running))
     (desk-left-asleep plan start workers b s d p tree own run is_over nothing asleep)

@@ -69,10 +69,6 @@ IsUnfound (With w) = Unit {0}
 IsUnfound Open = Unit {0}
 IsUnfound Over = ⊥
 
--- no node is with a worker
-abbrev pub NoneIsWith : DeskView → Type 0
-NoneIsWith d = (n w : ℕ) → place_of d.scheduler.table.places n ≢ With w
-
 -- a worker could enter a node that is in a hand, or is Closed and comes later
 pub record IsEnterLeft (d : DeskView) : Type 0 where
   pub worker : ℕ

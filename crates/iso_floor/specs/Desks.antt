@@ -8,7 +8,7 @@
 -- `IsDesk`); that a class is open for a worker (`IsOpenFor`); that a worker could enter no node
 -- that stands in a line, and none that was entered (`CanEnterNone`), and shut no class of its own
 -- line (`CanShutNone`); that each worker that is named is one of the floor's (`AreWorkers`); what is
--- left of a run that sleeps (`IsAsleep`, `NoneIsWith`, `IsEnterLeft`, `IsShutLeft`); that a node
+-- left of a run that sleeps (`IsAsleep`, `IsEnterLeft`, `IsShutLeft`); that a node
 -- that is Closed, or stands in a line of a key, was never entered (`AreUntouched`). No public clause
 -- cites it.
 -- Also in: `Asleep`, `Untouched`.

@@ -15,7 +15,7 @@
 -- (`ArePreceded`); that some child of an open class isn't over (`HaveLeft`). No public clause cites
 -- it.
 -- Also in: `Nexts`, `Parties`, `Postings`, `Remainders`, `Successions`.
-use Rattle.std.specs.Prelude.{◌≡◌, ◌≢◌, ◌<◌, ◌==◌, ℕ, List, Option, None, Some, Bool, true, false, cond, is_some, length, not}
+use Rattle.std.specs.Prelude.{◌≡◌, ◌≢◌, ◌<◌, ◌==◌, ℕ, List, Option, None, Some, Bool, true, false, cond, is_some, length, not, ◌+◌, ◌-◌, slice_index_or, slice_set}
 use Rattle.iso_desk.specs.Crews.{HasNothing}
 use Rattle.iso_desk.specs.Places.{StandsIn, TableView, line_in, moved, place_of}
 use Rattle.iso_desk.specs.declared.crew.Member.{Member}
@@ -70,6 +70,36 @@ is_loose Over = false
 -- how many nodes are loose
 abbrev pub loose_in : List Place → ℕ
 loose_in places = count (λ n. is_loose (place_of places n)) (length places)
+
+-- whether a place is one with a worker
+abbrev pub is_with : ℕ → Place → Bool
+is_with v Closed = false
+is_with v Loose = false
+is_with v (InLine s) = false
+is_with v (With w) = w == v
+is_with v Open = false
+is_with v Over = false
+
+-- how many nodes are with a worker
+abbrev pub with_in : List Place → ℕ → ℕ
+with_in places v = count (λ n. is_with v (place_of places n)) (length places)
+
+-- how many nodes are with each worker, where one node leaves this place, and where one gets it
+abbrev pub without : Place → List ℕ → List ℕ
+without Closed busy = busy
+without Loose busy = busy
+without (InLine s) busy = busy
+without (With w) busy = slice_set busy w (slice_index_or busy w 0 - 1)
+without Open busy = busy
+without Over busy = busy
+
+abbrev pub besides : Place → List ℕ → List ℕ
+besides Closed busy = busy
+besides Loose busy = busy
+besides (InLine s) busy = busy
+besides (With w) busy = slice_set busy w (slice_index_or busy w 0 + 1)
+besides Open busy = busy
+besides Over busy = busy
 
 -- a node that stands in no line gets a place in none, and one that stands in a line keeps it
 abbrev pub put : ℕ → Place → TableView → TableView

@@ -1,12 +1,14 @@
 //! What lies under the lock of a floor.
-ghost use Rattle.std.specs.Prelude.{◌≡◌, ◌<◌, ◌⊎◌, ℕ, IfOk, IfSome, IsTrue, MatchResult, None, OnOk, false, length, not, true};
+ghost use Rattle.std.specs.Prelude.{◌≡◌, ◌≢◌, ◌<◌, ◌⊎◌, ℕ, IfOk, IfSome, IsTrue, MatchResult, None, OnOk, false, length, not, true};
 ghost use Rattle.iso_book.specs.Books.{BookView};
 ghost use Rattle.iso_book.specs.Leaves.{IsLeft, IsNotLeft, MayBring, after_leave};
 ghost use Rattle.iso_book.specs.Progress.{phase_in};
 ghost use Rattle.iso_book.specs.Turns.{GoesOnWith, IsEntered, IsNotTaken, IsShut, IsTaken, MayEnterWith, ReadsStart};
 ghost use Rattle.iso_desk.specs.Crews.{awaits, member_of};
+ghost use Rattle.iso_desk.specs.Places.{place_of};
+ghost use Rattle.iso_desk.specs.declared.place.Place.TheVariants.{With};
 ghost use Rattle.iso_floor.specs.Answering.{HasRun, has_changed};
-ghost use Rattle.iso_floor.specs.Asleep.{AreWorkers, CanShutNone, IsAsleep, IsEnterLeft, IsShutLeft, NoneIsWith};
+ghost use Rattle.iso_floor.specs.Asleep.{AreWorkers, CanShutNone, IsAsleep, IsEnterLeft, IsShutLeft};
 ghost use Rattle.iso_floor.specs.Desks.{CanEnterNone, IsOpenFor};
 ghost use Rattle.iso_floor.specs.Grounds.{IsBookOf, IsTrayOf};
 ghost use Rattle.iso_floor.specs.Parties.{MayTry};
@@ -122,8 +124,8 @@ impl<'a, G: Ground> Desk<'a, G> {
     /// called, no worker that waits and wasn't called could enter a node in its own lines or in
     /// everyone's, or one that was entered, or shut a class in its own line; and where all wait, no
     /// body is under way and the run isn't over, something is left that one of them could enter or
-    /// shut. If besides no node is with a worker, and none was entered while it stood in a line, a
-    /// node is `Loose`: it lies in a deque, or is in a hand.
+    /// shut: if none was entered while it stood in a line, a node is `Loose`: it lies in a deque, or
+    /// is in a hand. No node is with a worker that waits.
     #[inline(always)]
     pub(crate) fn wakes(&mut self) -> Wakes
         ensures book { self.new.book ≡ self.old.book }
@@ -133,7 +135,9 @@ impl<'a, G: Ground> Desk<'a, G> {
             → awaits (member_of self.old.scheduler.members w) ≡ true → CanShutNone self.old w }
         ensures asleep { result.worker ≡ None → IsAsleep self.old
             → IsEnterLeft self.old ⊎ IsShutLeft self.old }
-        ensures never { result.worker ≡ None → IsAsleep self.old → NoneIsWith self.old
+        ensures free { (n w : ℕ) → (member_of self.old.scheduler.members w).waits ≡ true
+            → place_of self.old.scheduler.table.places n ≢ With w }
+        ensures never { result.worker ≡ None → IsAsleep self.old
             → self.old.scheduler.bypassed ≡ false → 0 < loose_in self.old.scheduler.table.places }
     {
         laws::nodes_are_a_tree(self.book.plan());

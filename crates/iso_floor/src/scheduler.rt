@@ -26,7 +26,7 @@
 //!     of everyone's is on offer, and no node lies in a deque, as far as it has seen.
 //! 11. Every turn, Leave and stop ends with a call, a Leave and the turn in the same hold of the
 //!     lock with one: one worker that waits, wasn't called, and has something to wake for.
-ghost use Rattle.std.specs.Prelude.{◌≡◌, ◌≢◌, ◌<◌, ◌≤◌, ◌+◌, ◌^◌, ◌==◌, ℕ, List, [], IfOk, IfSome, IsTrue, MatchOption, None, OnErr, OnOk, Some, cond, false, length, not, slice_set, true, ◌||◌, ◌-◌, is_some};
+ghost use Rattle.std.specs.Prelude.{◌≡◌, ◌≢◌, ◌<◌, ◌≤◌, ◌+◌, ◌^◌, ◌==◌, ℕ, List, [], IfOk, IfSome, IsTrue, MatchOption, None, OnErr, OnOk, Some, cond, false, length, not, slice_set, true, ◌||◌, ◌-◌, is_some, slice_index_or};
 ghost use Rattle.std.specs.Bool.{Decides};
 ghost use Rattle.iso_desk.specs.Crews.{awaits, called, looking, member_of, waiting};
 ghost use Rattle.iso_desk.specs.Lines.{IsLineOf};
@@ -37,7 +37,7 @@ ghost use Rattle.iso_desk.specs.declared.line.Line.TheVariants.{Key};
 ghost use Rattle.iso_desk.specs.declared.place.Place.TheVariants.{Closed, Loose, Open, Over, With};
 ghost use Rattle.iso_floor.specs.KeyMarks.{AreRenewed};
 ghost use Rattle.iso_floor.specs.Nexts.{HasNone, IsNextNode};
-ghost use Rattle.iso_floor.specs.Schedulers.{HasNothingIn, IsFor, IsFree, IsMoved, KeepsLines, KeepsPlaces, KeepsSizes, KeepsStands, WaitRightly, is_entered, is_loose, loose_in, next_taken, put, waiting_line};
+ghost use Rattle.iso_floor.specs.Schedulers.{HasNothingIn, IsFor, IsFree, IsMoved, KeepsLines, KeepsPlaces, KeepsSizes, KeepsStands, WaitRightly, is_entered, is_loose, loose_in, besides, next_taken, put, waiting_line, with_in, without};
 ghost use Rattle.iso_floor.specs.Parties.{IsOwned, MayTry, StandRightly, owner_of};
 ghost use Rattle.iso_floor.specs.Postings.{ClosesNone};
 ghost use Rattle.iso_floor.specs.Remainders.{HaveLeft, HaveLeftBut, left_in};
@@ -87,6 +87,8 @@ pub(crate) struct Scheduler {
     owners: Vec<Option<u32>>,
     /// By node, whether it is a class that was entered in a turn, to be left open.
     shared: Vec<bool>,
+    /// By worker, how many nodes are with it.
+    busy: Vec<usize>,
     /// By worker, the class that it has just opened.
     opening: Vec<Option<u32>>,
     /// How many nodes are `Loose`.
@@ -100,8 +102,9 @@ pub(crate) struct Scheduler {
 }
 
 impl Model for Scheduler {
-    ghost use Rattle.std.specs.Prelude.{◌≡◌, length};
-    ghost use Rattle.iso_floor.specs.Schedulers.{SchedulerView, loose_in};
+    ghost use Rattle.std.specs.Prelude.{◌≡◌, ◌<◌, ℕ, length, slice_index_or, true};
+    ghost use Rattle.iso_desk.specs.Crews.{member_of};
+    ghost use Rattle.iso_floor.specs.Schedulers.{SchedulerView, loose_in, with_in};
 
     ghost Value = { SchedulerView };
 
@@ -119,6 +122,11 @@ impl Model for Scheduler {
     ghost invariant = { λ s. record {
       crew : length s.crew.members.items ≡ s.table.workers;
       loose_are : s.loose ≡ loose_in s.table.places;
+      busy_long : length s.busy.items ≡ s.table.workers;
+      busy_are : (w : ℕ) → w < s.table.workers → slice_index_or s.busy.items w 0
+          ≡ with_in s.table.places w;
+      idle : (w : ℕ) → (member_of s.crew.members.items w).waits ≡ true
+          → with_in s.table.places w ≡ 0;
     } };
 }
 
@@ -171,6 +179,7 @@ impl Scheduler {
             passed: vec![in alloc; 0; nodes]?,
             owners: vec![in alloc; None; nodes]?,
             shared: vec![in alloc; false; nodes]?,
+            busy: vec![in alloc; 0; workers as usize]?,
             opening: vec![in alloc; None; workers as usize]?,
             loose: 0,
             lined: 0,
@@ -343,6 +352,7 @@ impl Scheduler {
         ensures place { self.new ≡ record self.old {
           table = put node (With worker) self.old.table;
           keys = self.new.keys;
+          members = self.new.members;
           bypassed = self.old.bypassed
               || is_some (line_in (place_of self.old.table.places node));
         } }
@@ -353,18 +363,33 @@ impl Scheduler {
         ensures lines { KeepsLines self.old self.new }
     {
         self.bypassed = self.bypassed || self.place(node).is_in_line();
+        self.rouse(worker);
         self.put(node, Place::With(worker));
         self.renew(plan, held, node);
     }
 
     /// A worker shut a class.
     pub(crate) fn shut(&mut self, class: u32, worker: u32)
-        ensures step { self.new
-            ≡ record self.old { table = put class (With worker) self.old.table } }
+        ensures step { self.new ≡ record self.old {
+          table = put class (With worker) self.old.table;
+          members = self.new.members;
+        } }
         ensures sizes { KeepsSizes self.old self.new }
         ensures lines { KeepsLines self.old self.new }
     {
+        self.rouse(worker);
         self.put(class, Place::With(worker));
+    }
+
+    /// A worker that has a node waits no more.
+    fn rouse(&mut self, worker: u32)
+        ensures awake { (member_of self.new.members worker).waits ≡ false }
+        ensures rest { self.new ≡ record self.old { members = self.new.members } }
+        ensures sizes { KeepsSizes self.old self.new }
+    {
+        if worker < self.table.workers() && self.crew.member(worker).waits {
+            self.crew.wake(worker);
+        }
     }
 
     /// A worker left a body of this kind: after the `before_all` of a class that is to be left open
@@ -532,14 +557,15 @@ impl Scheduler {
         self.lined > 0 && line_for(&self.table, &self.keys, worker).is_some()
     }
 
-    /// A worker begins to wait with what it has seen.
+    /// A worker begins to wait with what it has seen, if no node is with it.
     pub(crate) fn begin_wait(&mut self, worker: u32, seen: Option<u64>)
         ensures waits { worker < self.old.table.workers → self.new.members
-            ≡ waiting worker seen self.old.members }
+            ≡ cond (with_in self.old.table.places worker == 0)
+            (waiting worker seen self.old.members) self.old.members }
         ensures rest { self.new ≡ record self.old { members = self.new.members } }
         ensures sizes { KeepsSizes self.old self.new }
     {
-        if worker < self.table.workers() {
+        if worker < self.table.workers() && self.busy[worker as usize] == 0 {
             self.crew.wait(worker, seen);
         }
     }
@@ -557,10 +583,11 @@ impl Scheduler {
     }
 
     /// Whether a worker that waits goes on to wait, where the run is over or isn't: it has nothing
-    /// to wake for. Then it may be called again.
+    /// to wake for, and no node is with it. Then it may be called again.
     pub(crate) fn stays(&mut self, worker: u32, is_over: bool) -> bool
         ensures nothing { worker < self.old.table.workers → Decides result
-            (HasNothingIn self.old is_over worker (member_of self.old.members worker).seen) }
+            ((with_in self.old.table.places worker ≡ 0)
+            × HasNothingIn self.old is_over worker (member_of self.old.members worker).seen) }
         ensures waits { worker < self.old.table.workers → self.new.members
             ≡ cond result (waiting worker (member_of self.old.members worker).seen self.old.members)
             self.old.members }
@@ -571,7 +598,8 @@ impl Scheduler {
             return false;
         }
         let seen = self.crew.member(worker).seen;
-        let stays = has_nothing_for(&self.scene(is_over), worker, seen);
+        let stays = self.busy[worker as usize] == 0
+            && has_nothing_for(&self.scene(is_over), worker, seen);
         if stays {
             self.crew.wait(worker, seen);
         }
@@ -588,6 +616,8 @@ impl Scheduler {
             (λ w. (awaits (member_of self.old.members w) ≡ true)
             × ¬ HasNothingIn self.old is_over w (member_of self.old.members w).seen) }
         ensures marked { self.new ≡ record self.old { members = called result self.old.members } }
+        ensures idle { (w : ℕ) → (member_of self.old.members w).waits ≡ true
+            → with_in self.old.table.places w ≡ 0 }
         ensures sizes { KeepsSizes self.old self.new }
     {
         let scene = Scene {
@@ -643,7 +673,9 @@ impl Scheduler {
 
     /// Gives a node that stands in no line a place in none.
     fn put(&mut self, node: u32, place: Place)
-        requires { line_in place ≡ None }
+        requires line { line_in place ≡ None }
+        requires awake { (w : ℕ) → place ≡ With w
+            → (member_of self.old.members w).waits ≡ false }
         ensures step { self.new ≡ record self.old { table = put node place self.old.table } }
         ensures sizes { KeepsSizes self.old self.new }
         ensures lines { KeepsLines self.old self.new }
@@ -652,8 +684,10 @@ impl Scheduler {
         ensures stands { KeepsStands self.old self.new }
     {
         if self.is_free(node) {
-            let was = is_loose(self.table.place(node));
-            self.loose = recounted(self.loose, was, is_loose(place));
+            let was = self.table.place(node);
+            self.loose = recounted(self.loose, is_loose(was), is_loose(place));
+            leave_worker(&mut self.busy, was);
+            join_worker(&mut self.busy, place);
             self.table.put(node, place);
         }
     }
@@ -667,10 +701,11 @@ impl Scheduler {
         ensures rest { self.new ≡ record self.old { table = self.new.table } }
         ensures sizes { KeepsSizes self.old self.new }
     {
-        let was = is_loose(self.table.place(node));
+        let was = self.table.place(node);
         self.table.line_up(node, line)?;
         self.lined = self.lined.saturating_add(1);
-        self.loose = recounted(self.loose, was, false);
+        self.loose = recounted(self.loose, is_loose(was), false);
+        leave_worker(&mut self.busy, was);
         Ok(())
     }
 
@@ -683,10 +718,11 @@ impl Scheduler {
         ensures rest { self.new ≡ record self.old { table = self.new.table } }
         ensures sizes { KeepsSizes self.old self.new }
     {
-        let was = is_loose(self.table.place(node));
+        let was = self.table.place(node);
         self.table.line_up_first(node, line)?;
         self.lined = self.lined.saturating_add(1);
-        self.loose = recounted(self.loose, was, false);
+        self.loose = recounted(self.loose, is_loose(was), false);
+        leave_worker(&mut self.busy, was);
         Ok(())
     }
 
@@ -837,6 +873,31 @@ fn left_of(alloc: Global, plan: &Plan) -> Result<Vec<usize>, AllocError>
         left.push(plan.children(node).len())?;
     }
     Ok(left)
+}
+
+/// A node leaves this place: if it was with a worker, one less is.
+fn leave_worker(busy: &mut Vec<usize>, place: Place)
+    ensures { busy.new.items ≡ without place busy.old.items }
+{
+    if let Place::With(worker) = place {
+        let worker = worker as usize;
+        if worker < busy.len() {
+            busy[worker] = busy[worker].saturating_sub(1);
+        }
+    }
+}
+
+/// A node gets this place: if it is with a worker, one more is.
+fn join_worker(busy: &mut Vec<usize>, place: Place)
+    requires { (w : ℕ) → place ≡ With w → slice_index_or busy.old.items w 0 + 1 < 2 ^ 64 }
+    ensures { busy.new.items ≡ besides place busy.old.items }
+{
+    if let Place::With(worker) = place {
+        let worker = worker as usize;
+        if worker < busy.len() {
+            busy[worker] += 1;
+        }
+    }
 }
 
 /// Whether a place is an open class's.

@@ -21,7 +21,7 @@ use Rattle.iso_plan.specs.Tree.{Row}
 use Rattle.iso_suites.specs.PlanSuites.{is_same_thread}
 
 -- each number of a list is smaller than those after it
-abbrev IsInOrder : List ℕ → Type 0
+abbrev pub IsInOrder : List ℕ → Type 0
 IsInOrder xs = (i j : ℕ) → i < j → j < length xs → get_or xs i 0 < get_or xs j 0
 
 order-push : (xs : List ℕ) (n : ℕ) → ((i : ℕ) → i < length xs → get_or xs i 0 < n) → IsInOrder xs → IsInOrder (xs ++ n ∷ [])
@@ -38,7 +38,8 @@ order-by : (t : Bool) (xs : List ℕ) (n : ℕ) → ((i : ℕ) → i < length xs
 order-by true xs n less order = order-push xs n less order
 order-by false xs n less order = order
 
-order-below : (tree : List Row) (m n : ℕ) → IsInOrder (children_below tree m n)
+-- the children of a node stand in the order of their numbers
+pub order-below : (tree : List Row) (m n : ℕ) → IsInOrder (children_below tree m n)
 order-below tree m zero i j h within = absurd (omega arith)
 order-below tree m (suc n) i j h within =
     order-by (not (Paths.is_root n) && parent tree n == m) (children_below tree m n) n (λ k less. (child-below tree m n k less).within) (order-below tree m n) i j h within

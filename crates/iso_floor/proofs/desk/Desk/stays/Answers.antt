@@ -25,7 +25,7 @@ returns-clause-nothing g c =
     let w : ℕ = c.args.worker in
     rw (← c.self.view_is) (λ below yes.
     desk-none g.G.Ground.plan g.G.Ground.start g.G.Ground.workers i.book i.scheduler w c.is_over-is_over.result _ c.plan.result.now c.nodes_are_a_tree.ensures c.plan.ensures d
-    ((c.stays.ensures.nothing (subst (λ (n : ℕ). w < n) (sym d.scheduler.workers_are) below)).0 yes))
+    ((c.stays.ensures.nothing (subst (λ (n : ℕ). w < n) (sym d.scheduler.workers_are) below)).0 yes).1)
 
 pub returns-clause-shuts : goal.returns-clause-shuts
 returns-clause-shuts g c =
@@ -34,4 +34,4 @@ returns-clause-shuts g c =
     let w : ℕ = c.args.worker in
     rw (← c.self.view_is) (λ below yes.
     desk-shuts g.G.Ground.plan g.G.Ground.start g.G.Ground.workers i.book i.scheduler d c.plan.result.now c.nodes_are_a_tree.ensures c.plan.ensures w c.is_over-is_over.result _
-    ((c.stays.ensures.nothing (subst (λ (n : ℕ). w < n) (sym d.scheduler.workers_are) below)).0 yes))
+    ((c.stays.ensures.nothing (subst (λ (n : ℕ). w < n) (sym d.scheduler.workers_are) below)).0 yes).1)

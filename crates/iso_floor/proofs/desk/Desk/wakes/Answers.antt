@@ -1,6 +1,6 @@
 use Rattle.iso_floor.proofs.AsleepLemmas.{desk-left-asleep, desk-shuts}
 use Rattle.iso_floor.proofs.DeskLemmas.{desk-members, desk-none, none-told}
-use Rattle.iso_floor.proofs.NeverAsleep.{desk-never}
+use Rattle.iso_floor.proofs.NeverAsleep.{desk-never, free-by}
 use Rattle.iso_floor.proofs.SuccessionLemmas.{turns-members}
 use Rattle.iso_floor.proofs.RemainderLemmas.{left-members}
 use Rattle.iso_floor.proofs.UntouchedLemmas.{untouched-members}
@@ -42,6 +42,11 @@ returns-clause-asleep g c =
 pub returns-clause-never : goal.returns-clause-never
 returns-clause-never g c =
     let i = c.self.inside in
-    rw (← c.self.view_is) (λ none asleep free straight.
+    rw (← c.self.view_is) (λ none asleep straight.
     desk-never g.G.Ground.plan g.G.Ground.start g.G.Ground.workers i.book i.scheduler c.self.invariant.desk c.plan.result.now c.nodes_are_a_tree.ensures c.plan.ensures
-    c.history-history.ensures.run c.is_over-is_over.result (none-told c.call.result _ _ c.call.ensures.whom none) c.self.invariant.turns c.self.invariant.left (c.self.invariant.fresh straight) asleep free)
+    c.history-history.ensures.run c.is_over-is_over.result (none-told c.call.result _ _ c.call.ensures.whom none) c.self.invariant.turns c.self.invariant.left (c.self.invariant.fresh straight) asleep c.call.ensures.idle)
+
+pub returns-clause-free : goal.returns-clause-free
+returns-clause-free g c =
+    let i = c.self.inside in
+    rw (← c.self.view_is) (λ n w waits. free-by i.scheduler c.call.ensures.idle n w waits)

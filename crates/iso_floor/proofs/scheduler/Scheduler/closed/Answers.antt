@@ -1,10 +1,11 @@
-use Rattle.std.proofs.Common.{rules, List, None, Option, ℕ, ap, length, sym, ◌∙◌}
+use Rattle.std.proofs.Common.{rules, List, get_or, None, Option, ℕ, ap, length, sym, ◌∙◌}
 use Rattle.std.proofs.lemmas.List.{length-replicate}
 use Rattle.iso_desk.specs.Crews.{fresh}
 use Rattle.iso_desk.specs.Places.{TableView, place_of}
 use Rattle.iso_desk.specs.declared.crew.Member.{Member}
 use Rattle.iso_desk.specs.declared.place.Place.TheVariants.{Closed}
-use Rattle.iso_floor.specs.Schedulers.{is_entered, loose_in}
+use Rattle.iso_floor.specs.Schedulers.{is_entered, loose_in, with_in}
+use Rattle.iso_floor.proofs.BusyLemmas.{none-busy}
 use Rattle.iso_floor.proofs.LooseLemmas.{none-loose}
 use Rattle.iso_floor.proofs.LooseLemmas.{all-closed}
 use Rattle.iso_floor.specs.Parties.{owner_of}
@@ -16,11 +17,17 @@ use Rattle.iso_floor.proofs.scheduler.Scheduler.closed.Goals as goal
 
 pub invariant_of-result : goal.invariant_of-result
 invariant_of-result c =
+    let busy = c.in_ok-vec-4.ensures.items_if_clones_equal (λ y h. search rules) in
     record {
       crew =
           ap (λ (ms : List Member). length ms) c.in_ok-new-2.ensures ∙ length-replicate c.args.workers fresh
           ∙ sym (ap (λ (t : TableView). t.workers) c.in_ok-new.ensures);
       loose_are = sym (ap (λ (t : TableView). loose_in t.places) c.in_ok-new.ensures ∙ none-loose c.len.result);
+      busy_long = ap (λ (bs : List ℕ). length bs) busy ∙ length-replicate c.args.workers 0 ∙ sym (ap (λ (t : TableView). t.workers) c.in_ok-new.ensures);
+      busy_are = λ w low.
+          ap (λ (bs : List ℕ). get_or bs w 0) busy ∙ none-passed c.args.workers w
+          ∙ sym (ap (λ (t : TableView). with_in t.places w) c.in_ok-new.ensures ∙ none-busy c.len.result w);
+      idle = λ w waits. ap (λ (t : TableView). with_in t.places w) c.in_ok-new.ensures ∙ none-busy c.len.result w;
     }
 
 pub returns-clause-places : goal.returns-clause-places

@@ -8,4 +8,5 @@ pub returns-clause-lines : goal.returns-clause-lines
 returns-clause-lines c =
     λ n l st.
     subst (λ (s : SchedulerView). StandsIn s.table.places (Key l) n) c.self.view_is
-    (c.put.ensures.lines n l (subst (λ (s : SchedulerView). StandsIn s.table.places (Key l) n) c.renew.ensures.rest st))
+    (subst (λ (s : SchedulerView). StandsIn s.table.places (Key l) n) c.rouse.ensures.rest
+    (c.put.ensures.lines n l (subst (λ (s : SchedulerView). StandsIn s.table.places (Key l) n) c.renew.ensures.rest st)))

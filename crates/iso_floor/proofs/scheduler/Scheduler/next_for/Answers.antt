@@ -2,7 +2,8 @@ use Rattle.std.proofs.Common.{◌<◌, ◌^◌, ℕ, ap, length, refl, subst, sy
 use Rattle.iso_desk.specs.declared.line.Line.TheVariants.{Key}
 use Rattle.iso_desk.specs.Places.{IsFirst, StandsIn, TableView}
 use Rattle.iso_desk.specs.declared.place.Place.TheVariants.{Loose}
-use Rattle.iso_floor.specs.Schedulers.{SchedulerView, loose_in}
+use Rattle.iso_floor.specs.Schedulers.{SchedulerView, loose_in, with_in}
+use Rattle.iso_floor.proofs.BusyLemmas.{busy-taken}
 use Rattle.iso_floor.proofs.LooseLemmas.{left-line, line-room}
 use Rattle.iso_floor.proofs.RightLemmas.{line-moved}
 use Rattle.iso_floor.proofs.SchedulerLemmas.{stands-within}
@@ -29,6 +30,12 @@ invariant_of-self c =
       loose_are =
           left-line places n l c.self.inside.loose c.recounted-self-inside.result (stands-within places l n first.0) first.0 c.self.invariant.loose_are c.recounted-self-inside.ensures
           ∙ sym (ap (λ (t : TableView). loose_in t.places) c.leave.ensures);
+      busy_long = c.self.invariant.busy_long ∙ sym (ap (λ (t : TableView). t.workers) c.leave.ensures);
+      busy_are = λ w low.
+          c.self.invariant.busy_are w (subst (λ (k : ℕ). w < k) (ap (λ (t : TableView). t.workers) c.leave.ensures) low)
+          ∙ sym (ap (λ (t : TableView). with_in t.places w) c.leave.ensures ∙ busy-taken places n Loose l w (stands-within places l n first.0) first.0 refl);
+      idle = λ w waits.
+          ap (λ (t : TableView). with_in t.places w) c.leave.ensures ∙ busy-taken places n Loose l w (stands-within places l n first.0) first.0 refl ∙ c.self.invariant.idle w waits;
     }
 
 pub returns-clause-lines : goal.returns-clause-lines
