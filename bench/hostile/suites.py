@@ -3,6 +3,7 @@ aim at locks, keys, selections, schedules, nesting and what a body changes. Each
 and says by which words the program is asked beside the workers."""
 
 import random
+import sys
 
 from kinds import in_scripts, one, reads, settings, tests
 
@@ -17,6 +18,14 @@ def suite(*words, command="run"):
         return make
 
     return keep
+
+
+def named(names, others):
+    """These names of suites, or others where there are none. A name that no suite has ends the program."""
+    unknown = [name for name in names if name not in SUITES]
+    if unknown:
+        sys.exit(f"there is no suite {unknown[0]}: name some of {', '.join(SUITES)}")
+    return names or others
 
 
 def classes(count, before="", inside="test t { }"):
