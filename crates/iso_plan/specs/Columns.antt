@@ -8,6 +8,7 @@ use Rattle.iso_plan.specs.Locks.{locking_node, locks}
 use Rattle.iso_plan.specs.Modes.{mode}
 use Rattle.iso_plan.specs.NodeChains.{chain_classes, node_rights}
 use Rattle.iso_plan.specs.Paths.{children, column}
+use Rattle.iso_plan.specs.Repeated.{AreRepeats}
 use Rattle.iso_plan.specs.RowView.{heads_in, nodes_in, rights_in}
 use Rattle.iso_plan.specs.declared.columns.Chained.{Chained}
 use Rattle.iso_plan.specs.declared.columns.Keyed.{Keyed}
@@ -23,10 +24,11 @@ pub record IsChained (rows : List Row) (c : Chained) : Type 0 where
       ≡ column (chain_classes (nodes_in rows)) (length rows)
   pub rights_are : map rights_in c.rights.items ≡ column (node_rights (nodes_in rows)) (length rows)
 
--- their locking nodes and locks
+-- their locking nodes and locks, and which of them repeat the one before them
 pub record IsLocked (rows : List Row) (l : Locked) : Type 0 where
   pub locking_are : l.locking.items ≡ column (locking_node (nodes_in rows)) (length rows)
   pub locks_are : l.locks.items ≡ column (locks (nodes_in rows)) (length rows)
+  pub repeats_are : AreRepeats (nodes_in rows) l.repeated.items
 
 -- the keys, and the locks and modes of all nodes under settings
 pub record IsKeyed (rows : List Row) (settings : Settings) (k : Keyed) : Type 0 where

@@ -3,7 +3,7 @@
 -- group of keys: Keys that each node takes in the same access, or none of them (`are_alike`). The
 -- lowest of a group is its lead (`lead`), and the locks of a node on such keys are its lead locks
 -- (`lead_locks`).
-use Rattle.std.specs.Prelude.{◌≡◌, ℕ, ◌<◌, ◌-◌, List, [], ◌∷◌, MatchOption, filter, length, map, Option, Some, None, Bool, ◌&&◌, ◌==◌, cond, slice_index_or, take, true, unwrap_or}
+use Rattle.std.specs.Prelude.{◌≡◌, ℕ, ◌<◌, ◌-◌, List, [], ◌∷◌, MatchOption, filter, length, map, Option, Some, None, Bool, ◌&&◌, ◌==◌, cond, false, slice_index_or, take, true, unwrap_or}
 use Rattle.std.specs.List.{AllByRecursion, list_all}
 use Rattle.iso_model.specs.declared.access.Access.{Access}
 use Rattle.iso_model.specs.declared.access.Access.TheVariants.{Read, Write}
@@ -74,6 +74,12 @@ split_lead leads ls key =
 pub record IsAsBefore (lists : List (List Lock)) (n : ℕ) : Type 0 where
   pub later : 0 < n
   pub same : slice_index_or lists (n - 1) [] ≡ slice_index_or lists n []
+
+-- each list that is marked is the one before it
+pub record AreAsBefore (lists : List (List Lock)) (marks : List Bool) : Type 0 where
+  pub each : length marks ≡ length lists
+  pub before : (n : ℕ) → n < length lists → slice_index_or marks n false ≡ true
+      → IsAsBefore lists n
 
 -- a list splits no group of those before it
 abbrev pub IsIdle : List (List Lock) → ℕ → Type 0

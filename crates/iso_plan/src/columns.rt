@@ -16,6 +16,7 @@ use crate::lock::Lock;
 use crate::locking::locking_nodes;
 use crate::locks::locks;
 use crate::modes::modes;
+use crate::repeated::repeated;
 use crate::rights::rights;
 use crate::row::Row;
 use indexmap::IndexSet;
@@ -42,6 +43,8 @@ pub(crate) struct Chained {
 pub(crate) struct Locked {
     pub locking: Vec<Option<u32>>,
     pub locks: Vec<SharedList<Lock>>,
+    /// Which nodes repeat the one before them.
+    pub repeated: Vec<bool>,
 }
 
 /// The keys of a plan by number, with what its nodes lock of them, and their modes.
@@ -135,6 +138,11 @@ fn lock_all(alloc: Global, rows: &[Row], table: &IndexSet<&str>) -> Result<Locke
 {
     let isolated = isolated(alloc, rows)?;
     let locking = locking_nodes(alloc, rows, &isolated)?;
-    let locks = locks(alloc, rows, table, &isolated, &locking)?;
-    Ok(Locked { locking, locks })
+    let repeated = repeated(alloc, rows)?;
+    let locks = locks(alloc, rows, table, &isolated, &locking, &repeated)?;
+    Ok(Locked {
+        locking,
+        locks,
+        repeated,
+    })
 }

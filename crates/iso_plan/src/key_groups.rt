@@ -1,7 +1,7 @@
 //! Groups of keys that all nodes of a plan take alike, by the locks of its nodes.
 ghost use Rattle.std.specs.Prelude.{◌≡◌, ◌<◌, ◌≤◌, ◌+◌, ℕ, None, Some, [], IfOk, length, map, slice_index_or, slice_set, true, unwrap_or};
 ghost use Rattle.iso_model.specs.declared.limits.TheConstants.{KEYS};
-ghost use Rattle.iso_plan.specs.KeyGroups.{AreGroups, AreOrdered, IsAsBefore, IsIdle, access_on, lead_in, on_own, split_lead, way_of};
+ghost use Rattle.iso_plan.specs.KeyGroups.{AreAsBefore, AreGroups, AreOrdered, IsAsBefore, IsIdle, access_on, lead_in, on_own, split_lead, way_of};
 ghost use Rattle.iso_plan.specs.Paths.{column};
 
 use crate::lock::Lock;
@@ -21,18 +21,20 @@ pub(crate) struct Groups {
 pub(crate) fn group_keys(
     alloc: Global,
     locks: &[SharedList<Lock>],
+    repeated: &[bool],
     keys: usize,
 ) -> Result<Groups, AllocError>
     requires few { keys ≤ KEYS + 1 }
     requires ordered { (n : ℕ) → n < length locks.now
         → AreOrdered keys (slice_index_or locks.now n []) }
+    requires repeated { AreAsBefore locks.now repeated.now }
     ensures { IfOk result (AreGroups keys locks.now) }
 {
-    let leads = leads(alloc, locks, keys)?;
+    let leads = leads(alloc, locks, repeated, keys)?;
     if are_own(&leads) {
         return Ok(Groups { leads, lists: None });
     }
-    let lists = on_leads(alloc, locks, &leads)?;
+    let lists = on_leads(alloc, locks, repeated, &leads)?;
     Ok(Groups {
         leads,
         lists: Some(lists),
@@ -51,18 +53,25 @@ fn are_own(leads: &[u32]) -> bool
     true
 }
 
-/// The locks of each node that are on leads.
+/// The locks of each node that are on leads. A node that repeats the one before it shares that
+/// one's.
 fn on_leads(
     alloc: Global,
     locks: &[SharedList<Lock>],
+    repeated: &[bool],
     leads: &[u32],
 ) -> Result<Vec<SharedList<Lock>>, AllocError>
+    requires { AreAsBefore locks.now repeated.now }
     ensures { IfOk result (λ v. v.items ≡ map (on_own leads.now) locks.now) }
 {
     let mut lists: Vec<SharedList<Lock>> = Vec::with_capacity(alloc, locks.len())?;
-    'nodes: for list in locks {
-        let own = on_own(alloc, list.as_slice(), leads)?;
-        lists.push(SharedList::new(alloc, own)?)?;
+    'nodes: for n in 0..locks.len() {
+        let own = if repeated[n] {
+            lists[n - 1].share()?
+        } else {
+            SharedList::new(alloc, on_own(alloc, locks[n].as_slice(), leads)?)?
+        };
+        lists.push(own)?;
     }
     Ok(lists)
 }
@@ -91,16 +100,22 @@ fn lead_of(leads: &[u32], key: u32) -> u32
 }
 
 /// The lead of each key, by its number, where the nodes of a plan take these locks.
-fn leads(alloc: Global, locks: &[SharedList<Lock>], keys: usize) -> Result<Vec<u32>, AllocError>
+fn leads(
+    alloc: Global,
+    locks: &[SharedList<Lock>],
+    repeated: &[bool],
+    keys: usize,
+) -> Result<Vec<u32>, AllocError>
     requires few { keys ≤ KEYS + 1 }
     requires ordered { (n : ℕ) → n < length locks.now
         → AreOrdered keys (slice_index_or locks.now n []) }
+    requires repeated { AreAsBefore locks.now repeated.now }
     ensures { IfOk result (λ v. v.items
         ≡ column (lead_in locks.now) keys) }
 {
     let mut leads = vec![in alloc; 0; keys]?;
     'nodes: for n in 0..locks.len() {
-        if !is_idle(locks, n) {
+        if !is_idle(locks, repeated, n) {
             leads = split(alloc, &leads, locks[n].as_slice())?;
             if are_own(&leads) {
                 return Ok(leads);
@@ -112,23 +127,25 @@ fn leads(alloc: Global, locks: &[SharedList<Lock>], keys: usize) -> Result<Vec<u
 
 /// Whether a node splits no group, as far as its locks tell at a glance: it takes none, or those of
 /// the node before it.
-fn is_idle(locks: &[SharedList<Lock>], n: usize) -> bool
-    requires { n < length locks.now }
+fn is_idle(locks: &[SharedList<Lock>], repeated: &[bool], n: usize) -> bool
+    requires within { n < length locks.now }
+    requires repeated { AreAsBefore locks.now repeated.now }
     ensures { result ≡ true → IsIdle locks.now n }
 {
     let list = locks[n].as_slice();
     if list.is_empty() {
         return true;
     }
-    is_as_before(locks, n)
+    is_as_before(locks, repeated, n)
 }
 
 /// Whether a node takes the locks of the node before it.
-fn is_as_before(locks: &[SharedList<Lock>], n: usize) -> bool
-    requires { n < length locks.now }
+fn is_as_before(locks: &[SharedList<Lock>], repeated: &[bool], n: usize) -> bool
+    requires within { n < length locks.now }
+    requires repeated { AreAsBefore locks.now repeated.now }
     ensures { result ≡ true → IsAsBefore locks.now n }
 {
-    n != 0 && same_locks(locks[n - 1].as_slice(), locks[n].as_slice())
+    repeated[n] || n != 0 && same_locks(locks[n - 1].as_slice(), locks[n].as_slice())
 }
 
 /// Whether these are the same locks.

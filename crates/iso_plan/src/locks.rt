@@ -8,12 +8,12 @@ ghost use Rattle.iso_model.specs.declared.limits.TheConstants.{KEYS, NODES};
 ghost use Rattle.iso_plan.specs.KeyTable.{keys};
 ghost use Rattle.iso_plan.specs.Locks.{holds_isolated, is_that, locking_node, locks, locks_from};
 ghost use Rattle.iso_plan.specs.Paths.{IsTree, column, is_root};
+ghost use Rattle.iso_plan.specs.Repeated.{AreRepeats};
 ghost use Rattle.iso_plan.specs.RowView.{nodes_in};
 ghost use Rattle.iso_plan.specs.Tables.{own_table, with_first};
 ghost use Rattle.iso_plan.specs.declared.lock.Lock.{Lock};
 
 use crate::lock::Lock;
-use crate::repeated::repeated;
 use crate::row::Row;
 use indexmap::IndexSet;
 use iso_model::access::Access;
@@ -21,13 +21,14 @@ use iso_model::heads::Mark;
 use iso_model::shared_list::SharedList;
 use std::alloc::{AllocError, Global};
 
-/// The locks of each node, by key number.
+/// The locks of each node, by key number, where these nodes repeat the one before them.
 pub(crate) fn locks(
     alloc: Global,
     rows: &[Row],
     key_table: &IndexSet<&str>,
     isolated: &[bool],
     locking: &[Option<u32>],
+    repeated: &[bool],
 ) -> Result<Vec<SharedList<Lock>>, AllocError>
     requires tree { IsTree (nodes_in rows.now) }
     requires fits { length rows.now ≤ NODES }
@@ -36,11 +37,11 @@ pub(crate) fn locks(
     requires isolated { isolated.now ≡ column (holds_isolated (nodes_in rows.now))
         (length rows.now) }
     requires locking { locking.now ≡ column (locking_node (nodes_in rows.now)) (length rows.now) }
+    requires repeated { AreRepeats (nodes_in rows.now) repeated.now }
     ensures { IfOk result (λ v. v.items ≡ column (locks (nodes_in rows.now)) (length rows.now)) }
 {
     let mut followers = vec![in alloc; 0; key_table.len()]?;
-    let repeated = repeated(alloc, rows)?;
-    let mut tables = own_tables(alloc, rows, key_table.len(), isolated, locking, &repeated)?;
+    let mut tables = own_tables(alloc, rows, key_table.len(), isolated, locking, repeated)?;
     'nodes: for n in 0..rows.len() {
         if repeated[n] {
             continue;
@@ -50,7 +51,7 @@ pub(crate) fn locks(
             gather(&mut tables[m as usize], key_table, &mut followers, marks);
         }
     }
-    listed_tables(alloc, &tables, &repeated)
+    listed_tables(alloc, &tables, repeated)
 }
 
 /// For each node that takes keys an access by key number: a top-level class takes the global key,

@@ -22,7 +22,7 @@ ghost use Rattle.iso_plan.specs.SameNodes.{KeepsChains};
 ghost use Rattle.iso_plan.specs.KeptNodes.{plan_tree, texts_of};
 ghost use Rattle.iso_plan.specs.Tree.{tree};
 
-use crate::columns::{chain_all, key_all};
+use crate::columns::{Locked, chain_all, key_all};
 use crate::fault::PlanError;
 use crate::key_groups::group_keys;
 use crate::lock::Lock;
@@ -151,7 +151,12 @@ fn plan_of(alloc: Global, rows: Vec<Row>, settings: Settings) -> Result<Plan, Pl
     let keyed = key_all(alloc, &rows, settings)?;
     let chained = chain_all(alloc, &rows)?;
     let depth = longest(&chained.chains);
-    let groups = group_keys(alloc, &keyed.locked.locks, keyed.keys.len())?;
+    let Locked {
+        locking,
+        locks,
+        repeated,
+    } = keyed.locked;
+    let groups = group_keys(alloc, &locks, &repeated, keyed.keys.len())?;
     Ok(Plan {
         rows,
         settings,
@@ -160,8 +165,8 @@ fn plan_of(alloc: Global, rows: Vec<Row>, settings: Settings) -> Result<Plan, Pl
         rights: chained.rights,
         keys: keyed.keys,
         numbers: keyed.numbers,
-        locking: keyed.locked.locking,
-        locks: keyed.locked.locks,
+        locking,
+        locks,
         modes: keyed.modes,
         depth,
         leads: groups.leads,

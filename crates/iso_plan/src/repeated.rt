@@ -1,7 +1,7 @@
 //! Tests that repeat the node before them.
 ghost use Rattle.std.specs.Prelude.{◌≡◌, ◌<◌, ℕ, IfOk, IsTrue, false, length, slice_index_or, true};
 ghost use Rattle.iso_plan.specs.Paths.{is_test};
-ghost use Rattle.iso_plan.specs.Repeated.{Repeats};
+ghost use Rattle.iso_plan.specs.Repeated.{AreRepeats, Repeats};
 ghost use Rattle.iso_plan.specs.RowView.{kind_of, nodes_in, written_in};
 
 use crate::rights::are_alike;
@@ -11,9 +11,7 @@ use std::alloc::{AllocError, Global};
 /// For each node whether it repeats the one before it: both are tests of one class, with the same
 /// marks written on them. So it takes the same keys, and nothing of it has to be made anew.
 pub(crate) fn repeated(alloc: Global, rows: &[Row]) -> Result<Vec<bool>, AllocError>
-    ensures each { IfOk result (λ v. length v.items ≡ length rows.now) }
-    ensures repeats { IfOk result (λ v. (n : ℕ) → n < length rows.now
-        → slice_index_or v.items n false ≡ true → Repeats (nodes_in rows.now) n) }
+    ensures { IfOk result (λ v. AreRepeats (nodes_in rows.now) v.items) }
 {
     let mut repeated = Vec::with_capacity(alloc, rows.len())?;
     'nodes: for n in 0..rows.len() {

@@ -13,8 +13,8 @@ pub returns-then-is_empty : goal.returns-then-is_empty
 returns-then-is_empty c = λ e.
     let all = c.args.locks.now in
     idle-empty all c.args.n
-    (get_or_default all c.args.n [] c.index-locks-n.result (omega (arith, c.requires)) ∙ sym c.index-locks-n.is ∙ sym c.as_slice-list.ensures
+    (get_or_default all c.args.n [] c.index-locks-n.result (omega (arith, c.requires.within)) ∙ sym c.index-locks-n.is ∙ sym c.as_slice-list.ensures
     ∙ is-empty c.as_slice-list.result.now (sym c.is_empty.ensures ∙ c.if-is_empty.true))
 
 pub returns : goal.returns
-returns c = λ e. idle-again c.args.locks.now c.args.n c.requires (c.is_as_before.ensures e)
+returns c = λ e. idle-again c.args.locks.now c.args.n c.requires.within (c.is_as_before.ensures e)

@@ -1,6 +1,6 @@
 use Rattle.std.proofs.Common.{◌≡◌, ◌<◌, ◌≤◌, ◌+◌, ◌-◌, [], ℕ, List, Option, Some, None, Bool, true, false, cond, inl, inr, set, length, map, get_or, refl, subst, ap, ap₂, sym, ◌∙◌, arith, bytes_eq}
 use Rattle.std.proofs.lemmas.Bool.{cases_lt}
-use Rattle.std.proofs.lemmas.List.{length-map, map-set, get_or-map, get_or_default, get_or_past}
+use Rattle.std.proofs.lemmas.List.{length-map, map-set, get_or-map, get_or_past}
 use Rattle.std.proofs.lemmas.Result.{IfOk-weaker}
 use Rattle.std.specs.List.{IsDistinct}
 use Rattle.std.specs.declared.alloc.Global.{Global}
@@ -31,8 +31,8 @@ nodes-init c =
     let tree = map row_of rows in
     let ts = c.in_ok-tables.tables.items in
     let count : c.len-2.result ≡ length (keys tree) = c.len-2.ensures.len ∙ sym (length-map c.args.key_table.now.keys (λ k. k.now)) ∙ ap length c.requires.keys in
-    tables-start tree (λ m. get_or c.in_ok-repeated.repeated.items m false) (length rows) (map accesses ts)
-    (c.in_ok-tables.ensures ∙ (λ i. column (λ n. cond (get_or (c.deref.ensures.value i) n false) [] (own_table tree (count i) n)) (length rows)))
+    tables-start tree (λ m. get_or c.args.repeated.now m false) (length rows) (map accesses ts)
+    (c.in_ok-tables.ensures ∙ (λ i. column (λ n. cond (get_or c.args.repeated.now n false) [] (own_table tree (count i) n)) (length rows)))
 
 pub bounds : goal.bounds
 bounds c =
@@ -63,19 +63,19 @@ kept_at rep tree t n m reps own less off true e =
     absurd (cc)
 kept_at rep tree t n m reps own less off false e = e
 
-pub nodes-preserved-then-index : goal.nodes-preserved-then-index
-nodes-preserved-then-index c =
+pub nodes-preserved-then-repeated-n : goal.nodes-preserved-then-repeated-n
+nodes-preserved-then-repeated-n c =
     let rows = c.args.rows.now in
     let tree = map row_of rows in
     let n = c.nodes.n in
     let v = c.nodes.tables in
-    let rep = c.in_ok-repeated.repeated.items in
+    let rep = c.args.repeated.now in
     let out : ℕ → Bool = λ m. get_or rep m false in
-    let count : length rep ≡ length rows = c.in_ok-repeated.ensures.each in
-    let yes : out n ≡ true = get_or_default rep n false c.index.result.now (omega arith) ∙ sym c.index.ensures ∙ c.if-index.true in
+    let count : length rep ≡ length rows = (c.requires.repeated.each ∙ length-map c.args.rows.now row_of) in
+    let yes : out n ≡ true = c.if-repeated-n.true in
     let less : n < length tree = rw (length-map rows row_of) (omega arith) in
     tables-stay tree out (length rows) (map accesses v.items) n c.nodes.invariant
-    (λ m k kept. repeat-stays tree c.requires.tree n m k (c.in_ok-repeated.ensures.repeats n (omega arith) yes) less
+    (λ m k kept. repeat-stays tree c.requires.tree n m k (c.requires.repeated.repeats n (omega arith) yes) less
     (λ same. let wrong : true ≡ false = sym yes ∙ ap out (sym same) ∙ kept in absurd (cc)))
 
 pub gather-requires-clause-fits : goal.gather-requires-clause-fits
@@ -89,13 +89,13 @@ gather-requires-clause-fits c =
     let le : m ≤ n = locking-le tree c.requires.tree.below m n own in
     let each : length v.items ≡ length rows = sym (length-map v.items accesses) ∙ c.nodes.invariant.each in
     let stored : m < length v.items = omega arith in
-    let rep = c.in_ok-repeated.repeated.items in
+    let rep = c.args.repeated.now in
     let out : ℕ → Bool = λ j. get_or rep j false in
-    let count : length rep ≡ length rows = c.in_ok-repeated.ensures.each in
+    let count : length rep ≡ length rows = (c.requires.repeated.each ∙ length-map c.args.rows.now row_of) in
     let many : length tree ≡ length rows = length-map rows row_of in
-    let off : out n ≡ false = get_or_default rep n false c.index.result.now (omega arith) ∙ sym c.index.ensures ∙ c.if-index.false in
+    let off : out n ≡ false = c.if-repeated-n.false in
     let kept : out m ≡ false =
-    kept_at rep tree c.requires.tree n m (λ j h e. c.in_ok-repeated.ensures.repeats j (omega arith) e) own (omega arith) off (out m) refl in
+    kept_at rep tree c.requires.tree n m (λ j h e. c.requires.repeated.repeats j (omega arith) e) own (omega arith) off (out m) refl in
     ap (λ (t : Vec (Option Access) Global). length t.items) c.index_mut.ensures.value
     ∙ sym (ap length (get_or-map accesses v.items m c.index_mut.result.now [] stored))
     ∙ locking-size tree out c.requires.tree.below (length rows) (map accesses v.items) n m c.nodes.invariant own (omega arith) kept
@@ -113,7 +113,7 @@ nodes-preserved c =
     let v = c.nodes.tables in
     let read = column-read (locking_node tree) c.args.locking.now (length rows) n None c.requires.locking (omega arith) in
     let count : length c.args.key_table.now.keys ≡ length (keys tree) = sym (length-map c.args.key_table.now.keys (λ k. k.now)) ∙ ap length c.requires.keys in
-    let out : ℕ → Bool = λ j. get_or c.in_ok-repeated.repeated.items j false in
+    let out : ℕ → Bool = λ j. get_or c.args.repeated.now j false in
     let Holds : Vec (Vec (Option Access) Global) Global → Type 0 = λ ts. TablesAre tree out (length rows) (map accesses ts.items) (n + 1) in
     elim c.match-locking-n.branch [
       | in-Some w ↦
@@ -140,11 +140,11 @@ listed_tables-requires-clause-fits c = λ m h.
     let rows = c.args.rows.now in
     let tree = map row_of rows in
     let v = c.nodes.tables in
-    let out : ℕ → Bool = λ j. get_or c.in_ok-repeated.repeated.items j false in
-    let same : c.deref-2.result.now ≡ v.items = c.deref-2.ensures.value in
-    let count : length c.deref-2.result.now ≡ length v.items = ap length same in
+    let out : ℕ → Bool = λ j. get_or c.args.repeated.now j false in
+    let same : c.deref.result.now ≡ v.items = c.deref.ensures.value in
+    let count : length c.deref.result.now ≡ length v.items = ap length same in
     let each : length v.items ≡ length rows = sym (length-map v.items accesses) ∙ c.nodes.invariant.each in
-    let size : length (get_or (map accesses c.deref-2.result.now) m []) ≡ length (get_or (map accesses v.items) m []) = ap
+    let size : length (get_or (map accesses c.deref.result.now) m []) ≡ length (get_or (map accesses v.items) m []) = ap
     (λ (ts : List (Vec (Option Access) Global)). length (get_or (map accesses ts) m [])) same in
     let fits : length (get_or (map accesses v.items) m []) ≤ length (keys tree) = table-fits tree out (length rows) (map accesses v.items) c.nodes.n m c.nodes.invariant (omega arith) in
     let few : length (keys tree) ≤ 256 = c.requires.few in
@@ -154,16 +154,16 @@ pub listed_tables-requires-clause-each : goal.listed_tables-requires-clause-each
 listed_tables-requires-clause-each c =
     let v = c.nodes.tables in
     let each : length v.items ≡ length c.args.rows.now = sym (length-map v.items accesses) ∙ c.nodes.invariant.each in
-    ap length c.deref-3.ensures.value ∙ c.in_ok-repeated.ensures.each ∙ sym each ∙ sym (ap length c.deref-2.ensures.value)
+    (c.requires.repeated.each ∙ length-map c.args.rows.now row_of) ∙ sym each ∙ sym (ap length c.deref.ensures.value)
 
 pub listed_tables-requires-clause-later : goal.listed_tables-requires-clause-later
-listed_tables-requires-clause-later c = λ m e.
+listed_tables-requires-clause-later c = λ m yes.
     let rows = c.args.rows.now in
-    let rep = c.in_ok-repeated.repeated.items in
-    let count : length rep ≡ length rows = c.in_ok-repeated.ensures.each in
-    let yes : get_or rep m false ≡ true = sym (ap (λ (bs : List Bool). get_or bs m false) c.deref-3.ensures.value) ∙ e in
+    let rep = c.args.repeated.now in
+    let many : length (map row_of rows) ≡ length rows = length-map rows row_of in
+    let count : length rep ≡ length rows = c.requires.repeated.each ∙ many in
     elim (cases_lt m (length rows)) [
-      | inl less ↦ let later = (c.in_ok-repeated.ensures.repeats m less yes).later in omega arith
+      | inl less ↦ let later = (c.requires.repeated.repeats m (omega arith) yes).later in omega arith
       | inr past ↦ let wrong : false ≡ true = sym (get_or_past rep m false (omega arith)) ∙ yes in absurd (cc)
     ]
 
@@ -172,16 +172,15 @@ returns c =
     let rows = c.args.rows.now in
     let tree = map row_of rows in
     let v = c.nodes.tables in
-    let rep = c.in_ok-repeated.repeated.items in
+    let rep = c.args.repeated.now in
     let out : ℕ → Bool = λ j. get_or rep j false in
     let each : length v.items ≡ length rows = sym (length-map v.items accesses) ∙ c.nodes.invariant.each in
     let many : length tree ≡ length rows = length-map rows row_of in
     let last : c.nodes.n ≡ length tree = omega arith in
     let all : TablesAre tree out (length rows) (map accesses v.items) (length tree) = subst (TablesAre tree out (length rows) (map accesses v.items)) last c.nodes.invariant in
-    let size : length c.deref-2.result.now ≡ length rows = ap length c.deref-2.ensures.value ∙ each in
-    let told : (m : ℕ) → get_or c.deref-3.result.now m false ≡ out m = λ m. ap (λ (bs : List Bool). get_or bs m false) c.deref-3.ensures.value in
+    let size : length c.deref.result.now ≡ length rows = ap length c.deref.ensures.value ∙ each in
     IfOk-weaker c.listed_tables.result _ _ (λ r e. e ∙ ap (column (locks tree)) size)
     (c.listed_tables.ensures (locks tree)
-    (λ m h off. ap (λ (ts : List (Vec (Option Access) Global)). locks_from 0 (get_or (map accesses ts) m [])) c.deref-2.ensures.value
-    ∙ tables-end tree out (length rows) (map accesses v.items) m all (omega arith) (sym (told m) ∙ off))
-    (λ m h yes. like-locks tree c.requires.tree (m - 1) m (like-before tree m (c.in_ok-repeated.ensures.repeats m (omega arith) (sym (told m) ∙ yes)) (omega arith))))
+    (λ m h off. ap (λ (ts : List (Vec (Option Access) Global)). locks_from 0 (get_or (map accesses ts) m [])) c.deref.ensures.value
+    ∙ tables-end tree out (length rows) (map accesses v.items) m all (omega arith) off)
+    (λ m h yes. like-locks tree c.requires.tree (m - 1) m (like-before tree m (c.requires.repeated.repeats m (omega arith) yes) (omega arith))))

@@ -1,7 +1,7 @@
 use Rattle.std.proofs.Common.{length, map, ap, sym, subst, ◌∙◌}
 use Rattle.std.proofs.lemmas.List.{length-map}
 use Rattle.std.proofs.lemmas.Result.{err_from_is_err_and}
-use Rattle.std.proofs.Common.{◌≡◌, ◌<◌, ◌+◌, ◌≤◌, [], ℕ, List, arith, get_or}
+use Rattle.std.proofs.Common.{◌≡◌, ◌<◌, ◌+◌, ◌-◌, ◌≤◌, [], ℕ, Bool, List, arith, get_or}
 use Rattle.std.specs.declared.alloc.Global.{Global}
 use Rattle.std.specs.declared.sync.Arc.{Arc}
 use Rattle.std.specs.declared.vec.Vec.{Vec}
@@ -11,6 +11,8 @@ use Rattle.iso_plan.proofs.ColumnLemmas.{column-read, length-column}
 use Rattle.iso_plan.proofs.DepthLemmas.{depth-is}
 use Rattle.iso_plan.proofs.FaultLemmas.{keys-none, keys-refused}
 use Rattle.iso_plan.proofs.LeadLemmas.{groups-are, locks-ordered}
+use Rattle.iso_plan.proofs.RepeatLemmas.{like-before, like-locks}
+use Rattle.iso_plan.specs.Repeated.{AreRepeats}
 use Rattle.iso_plan.specs.Faults.{IsCrowded}
 use Rattle.iso_plan.specs.KeyGroups.{AreOrdered, all_locks}
 use Rattle.iso_plan.specs.KeyNumbers.{AreNumbers}
@@ -56,6 +58,31 @@ group_keys-requires-clause-ordered c = λ n h.
     subst (λ (k : ℕ). n < k) (ap length taken ∙ length-column (locks tree) (length v.items)) h in
     let this : get_or c.deref-4.result.now n [] ≡ locks tree n = column-read (locks tree) c.deref-4.result.now (length v.items) n [] taken within in
     subst (λ (k : ℕ). AreOrdered k (get_or c.deref-4.result.now n [])) (sym table) (subst (AreOrdered (length (keys tree))) (sym this) (locks-ordered tree n))
+
+pub group_keys-requires-clause-repeated : goal.group_keys-requires-clause-repeated
+group_keys-requires-clause-repeated c =
+    let v = c.args.rows in
+    let tree = map row_of v.items in
+    let keyed = c.in_ok-keyed.ensures.keyed in
+    let many : length tree ≡ length v.items = length-map v.items row_of in
+    let taken : c.deref-4.result.now ≡ column (locks tree) (length v.items) =
+    c.deref-4.ensures.value ∙ keyed.locked.locks_are ∙ ap (λ (rs : List Row). column (locks (map row_of rs)) (length rs)) c.deref.ensures.value in
+    let size : length c.deref-4.result.now ≡ length v.items = ap length taken ∙ length-column (locks tree) (length v.items) in
+    let reps : AreRepeats tree c.deref-5.result.now =
+    subst (λ (marks : List Bool). AreRepeats tree marks) (sym c.deref-5.ensures.value) (subst (λ (rs : List Row). AreRepeats (map row_of rs) c.in_ok-keyed.keyed.locked.repeated.items) c.deref.ensures.value keyed.locked.repeats_are) in
+    record {
+      each = reps.each ∙ many ∙ sym size;
+      before = λ n h e.
+          let again = reps.repeats n (omega arith) e in
+          let later = again.later in
+          record {
+            later = omega arith;
+            same =
+                column-read (locks tree) c.deref-4.result.now (length v.items) (n - 1) [] taken (omega arith)
+                ∙ like-locks tree c.requires.tree (n - 1) n (like-before tree n again (omega arith))
+                ∙ sym (column-read (locks tree) c.deref-4.result.now (length v.items) n [] taken (omega arith));
+          };
+    }
 
 pub invariant_of-result : goal.invariant_of-result
 invariant_of-result c =

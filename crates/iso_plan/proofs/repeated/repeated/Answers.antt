@@ -1,6 +1,6 @@
 use Rattle.std.proofs.Common.{◌≡◌, ◌+◌, ◌∷◌, [], List, Bool, false, length, map, get_or, inl, inr, subst, ap, sym, ◌∙◌, arith}
 use Rattle.std.proofs.lemmas.Bool.{cases_lt}
-use Rattle.std.proofs.lemmas.List.{get_or_append_left, get_or_push, length_push}
+use Rattle.std.proofs.lemmas.List.{get_or_append_left, get_or_push, length-map, length_push}
 use Rattle.iso_plan.specs.Repeated.{Repeats}
 use Rattle.iso_plan.specs.RowView.{row_of}
 use Rattle.iso_plan.proofs.repeated.repeated.Goals as goal
@@ -24,3 +24,10 @@ nodes-preserved c =
             (c.repeats.ensures (sym (ap (λ (bs : List Bool). get_or bs m false) c.in_ok-push.ensures.items ∙ get_or_push old x false m (each ∙ sym same)) ∙ e))
       ];
     }
+
+pub returns : goal.returns
+returns c =
+    let rows = c.args.rows.now in
+    let size : length (map row_of rows) ≡ length rows = length-map rows row_of in
+    let each = c.nodes.invariant.each in
+    record { each = omega arith; repeats = λ m h e. c.nodes.invariant.repeats m (omega arith) e }
