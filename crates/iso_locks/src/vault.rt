@@ -23,6 +23,9 @@ use iso_store::held::Held;
 use std::alloc::{AllocError, Global};
 use std::marker::Model;
 
+/// The values of fewer keys than these move one by one, which costs less than to move them all.
+const MANY_KEYS: u32 = 8;
+
 /// A node can't be lent: the lowest lent node that conflicts with it.
 #[derive(Debug, Clone, Copy, PartialEq, Eq)]
 pub struct Busy {
@@ -175,10 +178,14 @@ impl<'a> Holders for Vault<'a> {
     }
 }
 
-/// Whether each node of a plan takes all keys but the global one alike, or none of them.
+/// Whether it is worth knowing, and so, that each node of a plan takes all keys but the global one
+/// alike, or none of them.
 fn is_one_group(plan: &Plan) -> bool
     ensures { result ≡ true → IsOneGroup (tree_of plan.now) }
 {
+    if plan.key_count() < MANY_KEYS {
+        return false;
+    }
     'keys: for key in 1..plan.key_count() {
         if plan.lead(key) != 1 {
             return false;
