@@ -1,5 +1,6 @@
 //! Slots for values that must be spent.
 ghost use Rattle.std.specs.Prelude.{◌≡◌, ◌≤◌, ◌<◌, ◌++◌, ◌∷◌, [], ℕ, IfOk, MatchOption, OnOk, OnErr, None, Some, false, length, option_copied, option_map, replicate, slice_set, true};
+ghost use Rattle.std.specs.Bool.{Decides};
 ghost use Rattle.iso_locks.specs.KeySets.{holds};
 ghost use Rattle.iso_locks.specs.Slots.{HasLater, has_changed, has_unchanged, restarted, slot};
 ghost use Rattle.iso_store.specs.Histories.{History, after};
@@ -157,7 +158,7 @@ impl Slots {
 
     /// Whether there is no value from a number on.
     pub fn has_none_from(&self, from: usize) -> bool
-        ensures { result ≡ true → (i : ℕ) → from ≤ i → slot self.now i ≡ None }
+        ensures { Decides result ((i : ℕ) → from ≤ i → slot self.now i ≡ None) }
     {
         match (self.unchanged.next(from), self.changed.next(from)) {
             (None, None) => true,
@@ -167,7 +168,7 @@ impl Slots {
 
     /// Whether there is no value.
     pub fn has_none(&self) -> bool
-        ensures { result ≡ true → (i : ℕ) → slot self.now i ≡ None }
+        ensures { Decides result ((i : ℕ) → slot self.now i ≡ None) }
     {
         self.has_none_from(0)
     }

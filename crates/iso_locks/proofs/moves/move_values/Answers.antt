@@ -54,11 +54,11 @@ returns-clause-there c =
 
 pub returns-then-has_none_from-clause-here : goal.returns-then-has_none_from-clause-here
 returns-then-has_none_from-clause-here c =
-    c.swap_but_first.ensures.here ∙ all-here c.args.locks.now c.args.there.now c.args.here.now c.requires.fits (c.has_none_from.ensures c.if-has_none_from.true) (c.requires.all c.if-all.true)
+    c.swap_but_first.ensures.here ∙ all-here c.args.locks.now c.args.there.now c.args.here.now c.requires.fits (c.has_none_from.ensures.0 c.if-has_none_from.true) (c.requires.all c.if-all.true)
 
 pub returns-then-has_none_from-clause-there : goal.returns-then-has_none_from-clause-there
 returns-then-has_none_from-clause-there c =
-    c.swap_but_first.ensures.there ∙ all-away c.args.locks.now c.args.there.now c.args.here.now c.requires.fits (c.has_none_from.ensures c.if-has_none_from.true) (c.requires.all c.if-all.true)
+    c.swap_but_first.ensures.there ∙ all-away c.args.locks.now c.args.there.now c.args.here.now c.requires.fits (c.has_none_from.ensures.0 c.if-has_none_from.true) (c.requires.all c.if-all.true)
 
 pub swap_but_first-requires-clause-there : goal.swap_but_first-requires-clause-there
 swap_but_first-requires-clause-there c = (c.requires.all c.if-all.true).some

@@ -30,7 +30,7 @@ returns-then-has_none c =
     let tree = tree_of c.self.inside.plan.now in
     let n = c.args.node in
     let marks : Slots → SavepointView = λ vs. record { node = n; values = vs } in
-    let none = c.has_none.ensures c.if-has_none.true in
+    let none = c.has_none.ensures.0 c.if-has_none.true in
     ap marks (c.of-then.ensures ∙ nothing-kept c.self.inside.values (may_write tree n) none) ∙ ap (λ (t : TrayView). marked t n) c.self.view_is
 
 pub returns : goal.returns
