@@ -1,8 +1,8 @@
 -- How the lines are kept: by the nodes themselves, each of which knows the one behind it.
 --
 -- how lines are kept: Along a line numbers rise, and none stands between two neighbours
--- (`IsLinked`, `AreLinked`, `IsTable`); each line has ends where it is marked, which it is where
--- somebody stands in it (`ends_in`, `HaveRoom`, `AreFilled`). No public clause cites it.
+-- (`IsLinked`, `AreLinked`, `IsTable`); each line that isn't empty is marked, and has ends
+-- (`ends_in`, `HaveRoom`, `AreFilled`). No public clause cites it.
 use Rattle.std.specs.Prelude.{◌≡◌, ◌≤◌, ◌<◌, ◌≢◌, ℕ, ◌+◌, ◌*◌, List, Option, None, Some, MatchOption, length, cond, is_some, ◌==◌, map, slice_index, slice_index_or, slice_set}
 use Rattle.std.specs.List.{range_with_len}
 use Rattle.iso_desk.specs.Lines.{IsLineOf, line_number}
@@ -60,8 +60,9 @@ pub record AreLinked (workers : ℕ) (places : List Place) (next : List ℕ) (en
 -- by their first and their last nodes
 abbrev pub ends_in : Marks → List ℕ → List ℕ → List (Option Ends)
 ends_in filled first last =
-    map (λ i. cond (has filled i) (Some (record { first = slice_index first i; last = slice_index last i }))
-    None) (range_with_len 0 (length first))
+    map (λ i. cond (has filled i)
+    (Some (record { first = slice_index first i; last = slice_index last i })) None)
+    (range_with_len 0 (length first))
 
 -- there is room for each line
 pub record HaveRoom (filled : Marks) (first last : List ℕ) : Type 0 where
