@@ -22,8 +22,9 @@
 //!    and its first SAME_THREAD child stands in the owner's own line.
 //! 9. A node is over when its last body was left. In an open class the next SAME_THREAD child then
 //!    stands in the owner's own line, and so does the class itself after its last child.
-//! 10. A worker waits while the run goes on, nothing stands in its own line, nothing of its own or
-//!     of everyone's is on offer, and no node lies in a deque, as far as it has seen.
+//! 10. A worker waits while the run goes on, no node is with it, nothing stands in its own line,
+//!     nothing of its own or of everyone's is on offer, and no node lies in a deque, as far as it
+//!     has seen.
 //! 11. Every turn, Leave and stop ends with a call, a Leave and the turn in the same hold of the
 //!     lock with one: one worker that waits, wasn't called, and has something to wake for.
 ghost use Rattle.std.specs.Prelude.{◌≡◌, ◌≢◌, ◌<◌, ◌≤◌, ◌+◌, ◌^◌, ◌==◌, ℕ, List, [], IfOk, IfSome, IsTrue, MatchOption, None, OnErr, OnOk, Some, cond, false, length, not, slice_set, true, ◌||◌, ◌-◌, is_some, slice_index_or};
