@@ -9,7 +9,6 @@ ghost use Rattle.iso_plan.specs.RowView.{tree_of};
 
 use iso_locks::tray::Tray;
 use iso_plan::laws;
-use iso_plan::lock::takes_write;
 
 /// Whether a node that waits may be entered with a tray of the book's plan and starting values.
 pub(crate) fn enters_with(tray: &Tray<'_>, node: u32) -> bool
@@ -65,5 +64,5 @@ fn is_missing(tray: &Tray<'_>, class: u32) -> bool
     ensures { result ≡ (takes_write (tree_of tray.now.plan) class
         && not (is_lent tray.now.lent class)) }
 {
-    takes_write(tray.plan().locks(class)) && !tray.is_lent(class)
+    !tray.is_lent(class) && tray.plan().is_writer(class)
 }

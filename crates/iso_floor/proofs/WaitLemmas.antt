@@ -23,6 +23,7 @@ use Rattle.iso_model.specs.declared.access.Access.{Access}
 use Rattle.iso_model.specs.declared.access.Access.TheVariants.{Read, Write}
 use Rattle.iso_plan.proofs.LockLemmas.{locks-known}
 use Rattle.iso_plan.proofs.PathLemmas.{eq_not}
+use Rattle.iso_plan.proofs.WriterLemmas.{lead-taken}
 use Rattle.iso_plan.specs.Conflicts.{is_in_the_way, lowest, lowest_in_the_way}
 use Rattle.iso_plan.specs.HeldNodes.{is_access, is_held, takes_in}
 use Rattle.iso_plan.specs.KeyGroups.{is_lead}
@@ -36,7 +37,6 @@ use Rattle.iso_standing.specs.declared.event.Event.TheVariants.{Enter}
 use Rattle.iso_suites.specs.ScriptLanguage.{scripts}
 use Rattle.iso_floor.proofs.ComingLemmas.{at-refused}
 use Rattle.iso_floor.proofs.HintLemmas.{some-excluded}
-use Rattle.iso_floor.proofs.LeadLemmas.{lead-taken}
 use Rattle.iso_floor.proofs.OwnerLemmas.{line-refused}
 use Rattle.iso_floor.proofs.PostingLemmas.{comes-later}
 use Rattle.iso_floor.proofs.TakenLemmas.{held-at}

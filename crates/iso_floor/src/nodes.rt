@@ -2,13 +2,11 @@
 ghost use Rattle.std.specs.Prelude.{◌≡◌, ◌<◌, ◌≤◌, [], MatchOption, false, length, slice_index_or, true};
 ghost use Rattle.iso_floor.specs.Successions.{AreConcurrent};
 ghost use Rattle.iso_model.specs.declared.script.Mode.TheVariants.{Concurrent, SameThread};
-ghost use Rattle.iso_plan.specs.Locks.{takes_write};
 ghost use Rattle.iso_plan.specs.Modes.{mode};
 ghost use Rattle.iso_plan.specs.Paths.{children, parent};
 ghost use Rattle.iso_plan.specs.RowView.{tree_of};
 
 use iso_model::script::Mode;
-use iso_plan::lock::takes_write;
 use iso_plan::plan::Plan;
 
 /// Whether a node may run beside what its class's owner does.
@@ -24,14 +22,6 @@ pub(crate) fn is_concurrent(plan: &Plan, node: u32) -> bool
         Mode::Concurrent => true,
         Mode::SameThread => false,
     }
-}
-
-/// Whether a node takes a key for READ_WRITE: then it takes the key's lead so.
-pub(crate) fn is_writer(plan: &Plan, node: u32) -> bool
-    requires { node < length plan.now.rows }
-    ensures { result ≡ takes_write (tree_of plan.now) node }
-{
-    takes_write(plan.lead_locks(node))
 }
 
 /// The children of a class.

@@ -13,7 +13,6 @@ ghost use Rattle.iso_serial.specs.OpenedTrays.{IsTrayAfter, StandsApart};
 use crate::floor::Floor;
 use crate::ground::Ground;
 use crate::halt::Halt;
-use crate::nodes::is_writer;
 use crate::refusal::{Meaning, meant_by};
 use crate::seat::Seat;
 use crate::turn::Turn;
@@ -56,7 +55,7 @@ impl<'w, 'a, G: Ground, R: Wait, T: Gate> Worker<'w, 'a, G, R, T> {
         let plan = self.floor.plan();
         laws::nodes_are_a_tree(plan);
         iso_locks::laws::lent_nodes_find_their_values(seat.tray());
-        if is_writer(plan, node) {
+        if plan.is_writer(node) {
             self.finish(seat, node)?;
             return Ok(None);
         }
@@ -247,5 +246,5 @@ pub(crate) fn is_done_whole(plan: &Plan, node: u32) -> bool
     ensures { node < length plan.now.rows → result
         ≡ (is_test (row_at (tree_of plan.now) node).kind || takes_write (tree_of plan.now) node) }
 {
-    node < plan.len() && (plan.is_test(node) || is_writer(plan, node))
+    node < plan.len() && (plan.is_test(node) || plan.is_writer(node))
 }

@@ -1,5 +1,5 @@
 -- Groups of keys that are taken alike: their leads, and what leads tell of all keys.
-use Rattle.std.proofs.Common.{◌≡◌, ℕ, zero, suc, ◌+◌, ◌<◌, ◌≤◌, List, [], ◌∷◌, ◌++◌, filter, get_or, Option, Some, None, Bool, true, false, ◌||◌, ◌&&◌, ◌==◌, cond, nat_lt, unwrap_or, ap, ap₂, sym, subst, ◌∙◌, inl, inr, arith, refl}
+use Rattle.std.proofs.Common.{◌≡◌, ℕ, zero, suc, ◌<◌, ◌≤◌, List, [], ◌∷◌, ◌++◌, filter, get_or, Option, Some, None, Bool, true, false, ◌||◌, ◌&&◌, ◌==◌, cond, nat_lt, unwrap_or, ap, ap₂, sym, subst, ◌∙◌, inl, inr, arith, refl}
 use Rattle.std.proofs.lemmas.Bool.{cases_eq}
 use Rattle.std.proofs.lemmas.List.Folds.{list_all-append}
 use Rattle.std.proofs.lemmas.Bool.Decides.{nat_tests}

@@ -37,4 +37,5 @@ pub mod SplitLemmas
 pub mod TopClassLemmas
 pub mod TopLemmas
 pub mod TreeLemmas
+pub mod WriterLemmas
 pub mod WrittenLemmas

@@ -10,7 +10,7 @@ use Rattle.std.specs.Option.{option_or}
 use Rattle.iso_model.specs.declared.script.Mode.{Mode}
 use Rattle.iso_model.specs.declared.script.Mode.TheVariants.{SameThread}
 use Rattle.iso_plan.specs.Locks.{takes_write}
-use Rattle.iso_plan.specs.Paths.{row_at, parent, path, is_root, is_top}
+use Rattle.iso_plan.specs.Paths.{row_at, parent, path, is_root, is_test, is_top}
 use Rattle.iso_plan.specs.Tree.{Row}
 use Rattle.iso_settings.specs.declared.settings.Settings.{Settings}
 
@@ -26,6 +26,11 @@ default_mode tree s n = cond (is_top tree n) s.classes_default_mode s.default_mo
 -- the mode on the node, else that on the nearest enclosing class that has one, else the default
 abbrev pub chosen_mode : List Row → Settings → ℕ → Mode
 chosen_mode tree s n = unwrap_or (nearest_mode tree (path tree n)) (default_mode tree s n)
+
+-- whether a node forces its descendants onto its thread: it isn't a test, and it or an enclosing
+-- class takes a key for READ_WRITE
+abbrev pub forces : List Row → ℕ → Bool
+forces tree n = not (is_test (row_at tree n).kind) && list_any (takes_write tree) (path tree n)
 
 -- whether an enclosing class of a node takes a key for READ_WRITE
 abbrev pub is_forced : List Row → ℕ → Bool

@@ -5,7 +5,6 @@ use Rattle.iso_model.specs.declared.access.Access.TheVariants.{Read, Write}
 use Rattle.iso_plan.specs.Locks.{holds_isolated, is_locking}
 use Rattle.iso_plan.specs.Paths.{is_top}
 use Rattle.iso_plan.specs.Tree.{Row}
-use Rattle.iso_plan.specs.declared.lock.Lock.{Lock}
 
 -- a table whose first key, if it has one, is taken so
 abbrev pub with_first : Option Access → List (Option Access) → List (Option Access)

@@ -12,7 +12,7 @@ pub struct Lock {
 }
 
 /// Whether one of some locks is for READ_WRITE.
-pub fn takes_write(locks: &[Lock]) -> bool
+pub(crate) fn takes_write(locks: &[Lock]) -> bool
     ensures { result ≡ list_any is_write locks.now }
 {
     'locks: for lock in locks {

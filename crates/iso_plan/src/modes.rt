@@ -1,13 +1,14 @@
 //! The execution mode of each node (JUnit 5 User Guide, parallel execution).
-ghost use Rattle.std.specs.Prelude.{◌≡◌, ◌&&◌, IfOk, cond, length, map, not, unwrap_or};
+ghost use Rattle.std.specs.Prelude.{◌≡◌, ◌&&◌, ◌||◌, IfOk, cond, length, map, not, unwrap_or};
 ghost use Rattle.std.specs.List.{list_any};
 ghost use Rattle.iso_model.specs.declared.script.Mode.TheVariants.{SameThread};
-ghost use Rattle.iso_plan.specs.Locks.{locks, takes_write};
-ghost use Rattle.iso_plan.specs.Modes.{mode, nearest_mode};
-ghost use Rattle.iso_plan.specs.Paths.{IsTree, column, path};
-ghost use Rattle.iso_plan.specs.RowView.{nodes_in};
+ghost use Rattle.iso_plan.specs.Locks.{is_write, locks};
+ghost use Rattle.iso_plan.specs.Modes.{forces, mode, nearest_mode};
+ghost use Rattle.iso_plan.specs.Paths.{IsTree, column, is_test, path};
+ghost use Rattle.iso_plan.specs.RowView.{kind_of, nodes_in};
 
 use crate::lock::{Lock, takes_write};
+use crate::repeated::is_test;
 use crate::row::Row;
 use iso_model::script::Mode;
 use iso_model::shared_list::SharedList;
@@ -32,12 +33,12 @@ pub(crate) fn modes(
         return Ok(vec![in alloc; Mode::SameThread; rows.len()]?);
     }
     let marked = nearest_modes(alloc, rows)?;
-    let writing = writing(alloc, rows, taken)?;
+    let forcing = forcing(alloc, rows, taken)?;
     let mut modes = Vec::with_capacity(alloc, rows.len())?;
     modes.push(Mode::SameThread)?;
     'nodes: for n in 1..rows.len() {
         let parent = rows[n].parent as usize;
-        modes.push(mode_of(settings, parent == 0, writing[parent], marked[n]))?;
+        modes.push(mode_of(settings, parent == 0, forcing[parent], marked[n]))?;
     }
     Ok(modes)
 }
@@ -75,20 +76,28 @@ fn nearest_modes(alloc: Global, rows: &[Row]) -> Result<Vec<Option<Mode>>, Alloc
     Ok(marked)
 }
 
-/// For each node whether it, or one of its enclosing classes, takes a key for READ_WRITE.
-fn writing(alloc: Global, rows: &[Row], taken: &[SharedList<Lock>]) -> Result<Vec<bool>, AllocError>
+/// For each node whether it forces its descendants onto its thread.
+fn forcing(alloc: Global, rows: &[Row], taken: &[SharedList<Lock>]) -> Result<Vec<bool>, AllocError>
     requires tree { IsTree (nodes_in rows.now) }
     requires taken { taken.now
         ≡ column (locks (nodes_in rows.now)) (length rows.now) }
     ensures { IfOk result (λ v. v.items
-        ≡ column (λ n. list_any (takes_write (nodes_in rows.now)) (path (nodes_in rows.now) n))
-        (length rows.now)) }
+        ≡ column (forces (nodes_in rows.now)) (length rows.now)) }
 {
-    let mut writing: Vec<bool> = Vec::with_capacity(alloc, rows.len())?;
-    writing.push(false)?;
+    let mut forcing: Vec<bool> = Vec::with_capacity(alloc, rows.len())?;
+    forcing.push(false)?;
     'nodes: for n in 1..rows.len() {
-        let above = writing[rows[n].parent as usize];
-        writing.push(takes_write(taken[n].as_slice()) || above)?;
+        let above = forcing[rows[n].parent as usize];
+        forcing.push(forces(&rows[n], above, taken[n].as_slice()))?;
     }
-    Ok(writing)
+    Ok(forcing)
+}
+
+/// Whether a node with these locks forces its descendants onto its thread, where its parent does or
+/// doesn't. A test has none, and its locks aren't looked at.
+fn forces(row: &Row, above: bool, locks: &[Lock]) -> bool
+    ensures { result
+        ≡ (not (is_test (kind_of row.now.kind)) && (list_any is_write locks.now || above)) }
+{
+    !is_test(row) && (takes_write(locks) || above)
 }

@@ -11,7 +11,7 @@ ghost use Rattle.iso_plan.specs.Faults.{IsFaultOf, keys_fault, plan_fault};
 ghost use Rattle.iso_plan.specs.KeyGroups.{lead, lead_locks};
 ghost use Rattle.iso_plan.specs.KeyNumbers.{number_below};
 ghost use Rattle.iso_plan.specs.KeyTable.{keys};
-ghost use Rattle.iso_plan.specs.Locks.{effective_marks, isolates, locking_node, locks};
+ghost use Rattle.iso_plan.specs.Locks.{effective_marks, isolates, locking_node, locks, takes_write};
 ghost use Rattle.iso_plan.specs.Modes.{mode};
 ghost use Rattle.iso_plan.specs.NodeChains.{chain_classes, chain_test, depth, largest, node_rights};
 ghost use Rattle.iso_plan.specs.Paths.{IsTree, children, is_test, parent_of, row_at};
@@ -25,7 +25,7 @@ ghost use Rattle.iso_plan.specs.Tree.{tree};
 use crate::columns::{Locked, chain_all, key_all};
 use crate::fault::PlanError;
 use crate::key_groups::group_keys;
-use crate::lock::Lock;
+use crate::lock::{Lock, takes_write};
 use crate::names::check_scripts;
 use crate::nodes::kept_rows;
 use crate::paths::is_path_of;
@@ -321,6 +321,14 @@ impl Plan {
             Some(lists) => lists[node as usize].as_slice(),
             None => self.locks(node),
         }
+    }
+
+    /// Whether a node takes a key for READ_WRITE: then it takes the key's lead so. Takes no memory.
+    pub fn is_writer(&self, node: u32) -> bool
+        requires { node < length self.now.rows }
+        ensures { result ≡ takes_write (tree_of self.now) node }
+    {
+        takes_write(self.lead_locks(node))
     }
 
     /// The locking node of a node's path, which takes the keys of all its descendants: a

@@ -41,7 +41,7 @@ fn is_repeated(a: &Row, b: &Row) -> bool
 }
 
 /// Whether a node is a test.
-fn is_test(row: &Row) -> bool
+pub(crate) fn is_test(row: &Row) -> bool
     ensures { result ≡ is_test (kind_of row.now.kind) }
 {
     matches!(row.kind, Kind::Test { .. })

@@ -5,9 +5,9 @@ use Rattle.iso_model.specs.declared.script.Mode.TheVariants.{SameThread}
 use Rattle.std.proofs.lemmas.List.{length-map}
 use Rattle.iso_plan.proofs.ColumnLemmas.{length-column, column-read, column-push, parent-at}
 use Rattle.iso_plan.proofs.KeyLemmas.{root-eq}
-use Rattle.iso_plan.proofs.ModeLemmas.{mode-root, mode-step, modes-off}
+use Rattle.iso_plan.proofs.ModeLemmas.{forces-in, mode-root, mode-step, modes-off}
 use Rattle.iso_plan.specs.Locks.{takes_write}
-use Rattle.iso_plan.specs.Modes.{mode, nearest_mode}
+use Rattle.iso_plan.specs.Modes.{forces, mode, nearest_mode}
 use Rattle.iso_plan.specs.Paths.{column, is_root, path, parent}
 use Rattle.iso_plan.specs.RowView.{row_of}
 use Rattle.iso_plan.proofs.modes.modes.Goals as goal
@@ -22,8 +22,8 @@ index-requires c =
     let rows = c.args.rows.now in
     let tree = map row_of rows in
     let n = c.nodes.n in
-    let v = c.in_ok-writing.writing in
-    let count : length v.items ≡ length rows = ap length c.in_ok-writing.ensures ∙ length-column (λ m. list_any (takes_write tree) (path tree m)) (length rows) in
+    let v = c.in_ok-forcing.forcing in
+    let count : length v.items ≡ length rows = ap length c.in_ok-forcing.ensures ∙ length-column (forces tree) (length rows) in
     let at = parent-at rows n c.index-rows-n.result (omega arith) in
     let below : parent tree n < n = c.requires.tree.below n (omega arith) in
     omega (arith, v.ok.0)
@@ -48,8 +48,9 @@ nodes-preserved c =
     let below : parent tree n < n = c.requires.tree.below n (omega arith) in
     let w : ℕ → Bool = λ m. list_any (takes_write tree) (path tree m) in
     let near : ℕ → Option Mode = λ m. nearest_mode tree (path tree m) in
-    let forced : c.index.result.now ≡ w (parent tree n) = c.index.ensures ∙ column-read w c.in_ok-writing.writing.items (length rows) p c.index.result.now c.in_ok-writing.ensures (omega arith)
-    ∙ ap w (sym at) in
+    let forced : c.index.result.now ≡ w (parent tree n) = c.index.ensures
+    ∙ column-read (forces tree) c.in_ok-forcing.forcing.items (length rows) p c.index.result.now c.in_ok-forcing.ensures (omega arith)
+    ∙ ap (forces tree) (sym at) ∙ forces-in tree c.requires.tree n (omega arith) in
     let marked : c.index-in-nodes.result.now ≡ near n = c.index-in-nodes.ensures
     ∙ column-read near c.in_ok-marked.marked.items (length rows) n c.index-in-nodes.result.now c.in_ok-marked.ensures (omega arith) in
     let top : (p == 0) ≡ is_root (parent tree n) = root-eq p ∙ ap is_root (sym at) in
