@@ -1,5 +1,6 @@
 -- Moving values lock by lock.
 use Rattle.std.proofs.Common.{◌≡◌, ◌≢◌, ℕ, zero, suc, ◌+◌, ◌<◌, ◌≤◌, List, [], ◌∷◌, ◌++◌, length, map, take, Option, Some, None, Bool, true, false, ◌||◌, ◌&&◌, ◌==◌, cond, get_or, set, ap, ap₂, sym, ◌∙◌, arith, refl}
+use Rattle.std.specs.List.{list_any}
 use Rattle.std.specs.Option.{option_or}
 use Rattle.std.proofs.lemmas.List.{get_or_default, get_or-set_same, get_or-set_other, length-set, length-map, take_all, take_more}
 use Rattle.iso_model.specs.Rights.{is_writable}
@@ -51,6 +52,27 @@ moving-all there0 here0 ls n there here all m =
           (λ i d h. let within : i < length here = rw m.here_fits h in get_or_default here i d None within ∙ m.here_is i
           ∙ ap (λ (xs : List Lock). cond (is_written xs i) (option_or (slot there0 i) (slot here0 i)) (slot here0 i)) whole),
     )
+
+neither : (k w any rest : Bool) → (w || any) ≡ false → (any ≡ false → rest ≡ false) → ((k && w) || rest) ≡ false
+neither true false false rest e next = next refl
+neither false false false rest e next = next refl
+neither k true any rest e next = absurd (cc)
+neither k false true rest e next = absurd (cc)
+
+-- where no lock is for READ_WRITE nothing moves
+none-written : (ls : List Lock) → list_any is_write ls ≡ false → (i : ℕ) → is_written ls i ≡ false
+none-written [] e i = refl
+none-written (l ∷ ls) e i = neither (l.key == i) (is_write l) (list_any is_write ls) (is_written ls i) e (λ rest. none-written ls rest i)
+
+pub none-here : (ls : List Lock) (there here : Slots) → list_any is_write ls ≡ false → here ≡ moved_here ls there here
+none-here ls there here e =
+    column-from (λ i. cond (is_written ls i) (option_or (slot there i) (slot here i)) (slot here i)) here (length here) refl
+    (λ i d h. get_or_default here i d None h ∙ ap (λ (b : Bool). cond b (option_or (slot there i) (slot here i)) (slot here i)) (sym (none-written ls e i)))
+
+pub none-away : (ls : List Lock) (there : Slots) → list_any is_write ls ≡ false → there ≡ moved_away ls there
+none-away ls there e =
+    column-from (λ i. cond (is_written ls i) None (slot there i)) there (length there) refl
+    (λ i d h. get_or_default there i d None h ∙ ap (λ (b : Bool). cond b None (slot there i)) (sym (none-written ls e i)))
 
 there_by : (e p b : Bool) (t0 now next : Option History) → now ≡ cond b None t0 → (p ≡ true → e ≡ true → next ≡ None)
     → (p ≡ true → e ≡ false → next ≡ now) → (p ≡ false → next ≡ now) → next ≡ cond (b || (e && p)) None t0

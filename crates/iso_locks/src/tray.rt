@@ -1,5 +1,6 @@
 //! One worker's values.
 ghost use Rattle.std.specs.Prelude.{◌≡◌, ◌<◌, ◌++◌, ◌∷◌, [], ℕ, None, Some, IfOk, List, OnErr, OnOk, cond, false, is_some, length, map, not, replicate, true};
+ghost use Rattle.std.specs.List.{list_any};
 ghost use Rattle.iso_store.specs.Histories.{History};
 ghost use Rattle.iso_locks.specs.Clashes.{clash};
 ghost use Rattle.iso_locks.specs.Owners.{AreOwned, CanHold};
@@ -10,16 +11,17 @@ ghost use Rattle.iso_lifecycle.specs.Subjects.{started};
 ghost use Rattle.iso_locks.specs.Trays.{CanUndo, empty_tray, frames_on, is_lent, marked, restored, start_at, undone};
 ghost use Rattle.iso_locks.specs.Moves.{AreAllButFirst, is_written, moved_away, moved_here};
 ghost use Rattle.iso_locks.specs.Vaults.{giving_back, receiving};
+ghost use Rattle.iso_locks.specs.declared.moves.Moves.TheVariants.{AllButFirst, Nothing};
 ghost use Rattle.iso_plan.specs.HeldNodes.{any_held};
 ghost use Rattle.iso_plan.specs.KeyTable.{keys};
-ghost use Rattle.iso_plan.specs.Locks.{locks};
+ghost use Rattle.iso_plan.specs.Locks.{is_write, locks};
 ghost use Rattle.iso_plan.specs.NodeChains.{depth};
 ghost use Rattle.iso_plan.specs.Paths.{is_test, path, row_at};
 ghost use Rattle.iso_plan.specs.RowView.{tree_of};
 
 use crate::kept::KeptValues;
 use crate::lent::LentNodes;
-use crate::moves::move_values;
+use crate::moves::{Moves, move_values};
 use crate::slots::Slots;
 use crate::starting::{Starts, starts_of};
 use crate::vault::values;
@@ -331,13 +333,14 @@ impl<'a> Tray<'a> {
         let _lent = &self.lent;
     }
 
-    /// Holds a node from now on, with the values that its locks for READ_WRITE are on. `all` tells
-    /// that they are on every key but the first, where that is known.
-    pub(crate) fn receive(&mut self, node: u32, taken: &[Lock], all: bool, home: &mut Slots)
+    /// Holds a node from now on, with the values that its locks for READ_WRITE are on; `moves`
+    /// tells what is known of these.
+    pub(crate) fn receive(&mut self, node: u32, taken: &[Lock], moves: Moves, home: &mut Slots)
         requires node { node < length self.old.plan.rows }
         requires home { length home.old ≡ length (keys (tree_of self.old.plan)) }
         requires taken { taken.now ≡ locks (tree_of self.old.plan) node }
-        requires all { all ≡ true → AreAllButFirst (length home.old) taken.now }
+        requires nothing { moves ≡ Nothing → list_any is_write taken.now ≡ false }
+        requires all { moves ≡ AllButFirst → AreAllButFirst (length home.old) taken.now }
         requires there { (i : ℕ) → is_written (locks (tree_of self.old.plan) node) i ≡ true
             → is_some (slot home.old i) ≡ true }
         requires apart { is_lent self.old.lent node ≡ false }
@@ -352,16 +355,17 @@ impl<'a> Tray<'a> {
         ensures home { home.new ≡ moved_away (locks (tree_of self.old.plan) node) home.old }
     {
         self.lent.lend(node);
-        move_values(taken, all, home, &mut self.values);
+        move_values(taken, moves, home, &mut self.values);
     }
 
-    /// Holds a node no longer. The values that its locks for READ_WRITE are on come home. `all` tells
-    /// that they are on every key but the first, where that is known.
-    pub(crate) fn give_back(&mut self, node: u32, taken: &[Lock], all: bool, home: &mut Slots)
+    /// Holds a node no longer. The values that its locks for READ_WRITE are on come home; `moves`
+    /// tells what is known of these.
+    pub(crate) fn give_back(&mut self, node: u32, taken: &[Lock], moves: Moves, home: &mut Slots)
         requires node { node < length self.old.plan.rows }
         requires home { length home.old ≡ length (keys (tree_of self.old.plan)) }
         requires taken { taken.now ≡ locks (tree_of self.old.plan) node }
-        requires all { all ≡ true → AreAllButFirst (length home.old) taken.now }
+        requires nothing { moves ≡ Nothing → list_any is_write taken.now ≡ false }
+        requires all { moves ≡ AllButFirst → AreAllButFirst (length home.old) taken.now }
         requires holds { is_lent self.old.lent node ≡ true }
         ensures fits { length self.old.values ≡ length (keys (tree_of self.old.plan)) }
         ensures tray { self.new ≡ giving_back node self.old }
@@ -369,7 +373,7 @@ impl<'a> Tray<'a> {
             (locks (tree_of self.old.plan) node) self.old.values home.old }
     {
         self.lent.take_back(node);
-        move_values(taken, all, &mut self.values, home);
+        move_values(taken, moves, &mut self.values, home);
     }
 }
 

@@ -1,16 +1,17 @@
 //! The values that no worker holds.
-ghost use Rattle.std.specs.Prelude.{◌≡◌, ◌<◌, ℕ, IfOk, MatchResult, None, OnErr, OnOk, Some, is_some, length, map, replicate, true};
+ghost use Rattle.std.specs.Prelude.{◌≡◌, ◌<◌, ℕ, IfOk, MatchResult, None, OnErr, OnOk, Some, false, is_some, length, map, replicate, true};
 ghost use Rattle.iso_locks.specs.Moves.{AreAllButFirst};
 ghost use Rattle.iso_locks.specs.Slots.{slot};
 ghost use Rattle.iso_locks.specs.Trays.{is_lent, key_at};
 ghost use Rattle.iso_locks.specs.Vaults.{CanLend, CanTakeBack, IsLentTo, IsOneGroup, busy, giving_back, is_home, lending, regaining, whole_vault};
+ghost use Rattle.iso_locks.specs.declared.moves.Moves.TheVariants.{AllButFirst, Nothing};
 ghost use Rattle.iso_plan.specs.KeyTable.{keys};
-ghost use Rattle.iso_plan.specs.Locks.{locks};
+ghost use Rattle.iso_plan.specs.Locks.{locks, takes_write};
 ghost use Rattle.iso_plan.specs.RowView.{tree_of};
 ghost use Rattle.iso_settings.specs.Worlds.{starting_value_in};
 ghost use Rattle.iso_store.specs.Histories.{History};
 
-use crate::moves::begin_at_second;
+use crate::moves::{Moves, begin_at_second};
 use crate::slots::Slots;
 use crate::tray::Tray;
 use iso_model::key::Key;
@@ -133,9 +134,9 @@ impl<'a> Vault<'a> {
         ensures tray { IsLentTo node tray.old tray.new }
     {
         let locks = self.plan.locks(node);
-        let all = self.takes_all(node);
+        let moves = self.moves(node);
         self.lent.hold(node);
-        tray.receive(node, locks, all, &mut self.values);
+        tray.receive(node, locks, moves, &mut self.values);
     }
 
     /// Takes a node back from a tray: what it takes for READ_WRITE comes home. Takes no memory.
@@ -145,22 +146,28 @@ impl<'a> Vault<'a> {
         ensures tray { tray.new ≡ giving_back node tray.old }
     {
         let locks = self.plan.locks(node);
-        let all = self.takes_all(node);
+        let moves = self.moves(node);
         self.lent.release(node);
-        tray.give_back(node, locks, all, &mut self.values);
+        tray.give_back(node, locks, moves, &mut self.values);
     }
 
-    /// Whether it is known that a node takes every key but the global one for READ_WRITE: it takes
-    /// the second one so before any other, and all behind it alike.
-    fn takes_all(&self, node: u32) -> bool
+    /// What moves when a node is lent and taken back. All values but that of the global key do,
+    /// where it takes the second key for READ_WRITE before any other, and all behind it alike.
+    fn moves(&self, node: u32) -> Moves
         requires { node < length self.now.plan.rows }
-        ensures { result ≡ true → AreAllButFirst (length (keys (tree_of self.now.plan)))
+        ensures nothing { result ≡ Nothing
+            → takes_write (tree_of self.now.plan) node ≡ false }
+        ensures all { result ≡ AllButFirst
+            → AreAllButFirst (length (keys (tree_of self.now.plan)))
             (locks (tree_of self.now.plan) node) }
     {
-        if !self.is_one_group {
-            return false;
+        if !self.plan.is_writer(node) {
+            Moves::Nothing
+        } else if self.is_one_group && begin_at_second(self.plan.locks(node)) {
+            Moves::AllButFirst
+        } else {
+            Moves::Written
         }
-        begin_at_second(self.plan.locks(node))
     }
 }
 

@@ -1,70 +1,8 @@
-use Rattle.std.proofs.Common.{◌<◌, ◌≤◌, List, length, slice_index_or, arith, ◌∙◌}
-use Rattle.std.proofs.lemmas.List.{get_or_default}
-use Rattle.iso_model.specs.declared.access.Access.TheVariants.{Read}
-use Rattle.iso_plan.specs.declared.lock.Lock.{Lock}
-use Rattle.iso_locks.proofs.MoveLemmas.{all-away, all-here, moving-all, moving-more, within-at}
+use Rattle.iso_locks.proofs.MoveLemmas.{none-away, none-here}
 use Rattle.iso_locks.proofs.moves.move_values.Goals as goal
 
-abbrev no_lock : Lock
-no_lock = record { key = 0; access = Read }
+pub returns-in-Nothing-clause-here : goal.returns-in-Nothing-clause-here
+returns-in-Nothing-clause-here c = none-here c.args.locks.now c.args.there.now c.args.here.now (c.requires.nothing c.in-Nothing.is)
 
-pub move_locked-requires-clause-there : goal.move_locked-requires-clause-there
-move_locked-requires-clause-there c =
-    let ls : List Lock = c.args.locks.now in
-    let l : Lock = slice_index_or ls c.locks.n no_lock in
-    let inside : c.locks.n < length ls = omega arith in
-    let less : l.key < length c.args.here.now = within-at (length c.args.here.now) ls c.locks.n l c.requires.within inside (get_or_default ls c.locks.n no_lock l inside) in
-    let fits = c.locks.invariant.there_fits in
-    let same = c.requires.fits in
-    omega arith
-
-pub move_locked-requires-clause-here : goal.move_locked-requires-clause-here
-move_locked-requires-clause-here c =
-    let ls : List Lock = c.args.locks.now in
-    let l : Lock = slice_index_or ls c.locks.n no_lock in
-    let inside : c.locks.n < length ls = omega arith in
-    let less : l.key < length c.args.here.now = within-at (length c.args.here.now) ls c.locks.n l c.requires.within inside (get_or_default ls c.locks.n no_lock l inside) in
-    let fits = c.locks.invariant.here_fits in
-    omega arith
-
-pub locks-preserved : goal.locks-preserved
-locks-preserved c =
-    let ls : List Lock = c.args.locks.now in
-    let l : Lock = slice_index_or ls c.locks.n no_lock in
-    let inside : c.locks.n < length ls = omega arith in
-    let less : l.key < length c.args.here.now = within-at (length c.args.here.now) ls c.locks.n l c.requires.within inside (get_or_default ls c.locks.n no_lock l inside) in
-    let fits = c.locks.invariant.there_fits in
-    let fits_here = c.locks.invariant.here_fits in
-    let same = c.requires.fits in
-    let in_there : l.key < length c.locks.there = omega arith in
-    let in_here : l.key < length c.locks.here = omega arith in
-    moving-more c.args.there.now c.args.here.now ls c.locks.n c.locks.there c.locks.here c.move_locked.new.there c.move_locked.new.here l inside (get_or_default ls c.locks.n no_lock l inside)
-    in_there in_here
-    c.move_locked.ensures.there c.move_locked.ensures.here c.locks.invariant
-
-pub returns-clause-here : goal.returns-clause-here
-returns-clause-here c =
-    let all : length c.args.locks.now ≤ c.locks.n = omega arith in
-    (moving-all c.args.there.now c.args.here.now c.args.locks.now c.locks.n c.locks.there c.locks.here all c.locks.invariant).1
-
-pub returns-clause-there : goal.returns-clause-there
-returns-clause-there c =
-    let all : length c.args.locks.now ≤ c.locks.n = omega arith in
-    (moving-all c.args.there.now c.args.here.now c.args.locks.now c.locks.n c.locks.there c.locks.here all c.locks.invariant).0
-
-pub returns-then-has_none_from-clause-here : goal.returns-then-has_none_from-clause-here
-returns-then-has_none_from-clause-here c =
-    c.swap_but_first.ensures.here ∙ all-here c.args.locks.now c.args.there.now c.args.here.now c.requires.fits (c.has_none_from.ensures.0 c.if-has_none_from.true) (c.requires.all c.if-all.true)
-
-pub returns-then-has_none_from-clause-there : goal.returns-then-has_none_from-clause-there
-returns-then-has_none_from-clause-there c =
-    c.swap_but_first.ensures.there ∙ all-away c.args.locks.now c.args.there.now c.args.here.now c.requires.fits (c.has_none_from.ensures.0 c.if-has_none_from.true) (c.requires.all c.if-all.true)
-
-pub swap_but_first-requires-clause-there : goal.swap_but_first-requires-clause-there
-swap_but_first-requires-clause-there c = (c.requires.all c.if-all.true).some
-
-pub swap_but_first-requires-clause-here : goal.swap_but_first-requires-clause-here
-swap_but_first-requires-clause-here c =
-    let some : 0 < length c.args.there.now = (c.requires.all c.if-all.true).some in
-    let same = c.requires.fits in
-    omega (arith, some, same)
+pub returns-in-Nothing-clause-there : goal.returns-in-Nothing-clause-there
+returns-in-Nothing-clause-there c = none-away c.args.locks.now c.args.there.now (c.requires.nothing c.in-Nothing.is)

@@ -1,8 +1,9 @@
 use Rattle.std.proofs.Common.{◌≡◌, ◌<◌, ℕ, List, length, map, set, None, Bool, true, is_some, ap, sym, ◌∙◌, subst, arith}
+use Rattle.std.specs.List.{list_any}
 use Rattle.iso_plan.specs.Conflicts.{lowest_in_the_way}
 use Rattle.iso_plan.specs.HeldNodes.{HeldView}
 use Rattle.iso_plan.specs.KeyTable.{keys}
-use Rattle.iso_plan.specs.Locks.{locks}
+use Rattle.iso_plan.specs.Locks.{is_write, locks, takes_write}
 use Rattle.iso_plan.specs.Planned.{Planned}
 use Rattle.iso_plan.specs.RowView.{tree_of}
 use Rattle.iso_settings.specs.Worlds.{Start}
@@ -85,6 +86,11 @@ receive-requires-clause-all c =
     let n = c.args.node in
     let All : VaultView → Type 0 = λ v. AreAllButFirst (length (keys (tree_of v.plan))) (locks (tree_of v.plan) n) in
     λ e.
-    let all : AreAllButFirst (length (keys (tree_of c.self.inside.plan.now))) (locks (tree_of c.self.inside.plan.now) n) = subst All (sym c.self.view_is) (c.takes_all-all.ensures e) in
+    let all : AreAllButFirst (length (keys (tree_of c.self.inside.plan.now))) (locks (tree_of c.self.inside.plan.now) n) = subst All (sym c.self.view_is) (c.moves-moves.ensures.all e) in
     let taken = subst (AreAllButFirst (length (keys (tree_of c.self.inside.plan.now)))) (sym c.locks-locks.ensures.locks) all in
     subst (λ (m : ℕ). AreAllButFirst m c.locks-locks.result.now) (sym c.self.invariant.lists.values_fit) taken
+
+pub receive-requires-clause-nothing : goal.receive-requires-clause-nothing
+receive-requires-clause-nothing c = λ e.
+    ap (list_any is_write) c.locks-locks.ensures.locks
+    ∙ ap (λ (v : VaultView). takes_write (tree_of v.plan) c.args.node) c.self.view_is ∙ c.moves-moves.ensures.nothing e
