@@ -34,8 +34,7 @@ at-least-two (C.Unwritable name) = omega arith
 at-least-two C.Uncounted = omega arith
 at-least-two (C.Told false) = omega arith
 at-least-two (C.Told true) = omega arith
-at-least-two (C.Run fault word) = run-at-least-two fault
-at-least-two (C.Explained fault word text) = run-at-least-two fault
+at-least-two (C.Run fault word text) = run-at-least-two fault
 
 -- a plain run reported on what stood on the input
 plain-ran : (request : Request) (script : List ℕ) (old new : Account) (ok : Bool) → IsPlainRun request → Did request (Some script) old new ok → RanOn script old new (exit_status (Whole ok))
@@ -81,5 +80,4 @@ refuses (C.Unwritable name) h = absurd (omega (arith, h))
 refuses C.Uncounted h = absurd (omega (arith, h))
 refuses (C.Told false) h = refl
 refuses (C.Told true) h = absurd (omega (arith, h))
-refuses (C.Run fault word) h = refuses-run fault h
-refuses (C.Explained fault word text) h = refuses-run fault h
+refuses (C.Run fault word text) h = refuses-run fault h

@@ -8,7 +8,7 @@ use Rattle.std.specs.Prelude.{◌≡◌, ◌≢◌, ◌⊎◌, ⊤, ℕ, List, [
 use Rattle.iso_arguments.specs.declared.wrong_words.WordsFault.{WordsFault}
 use Rattle.iso_arguments.specs.declared.wrong_words.WordsFault.TheVariants as W
 use Rattle.iso_run.specs.declared.command_fault.CommandFault.{CommandFault}
-use Rattle.iso_run.specs.declared.command_fault.CommandFault.TheVariants.{Words, Unreadable, TooLarge, NotListed, Unwritten, Unwritable, Uncounted, Told, Run, Explained}
+use Rattle.iso_run.specs.declared.command_fault.CommandFault.TheVariants.{Words, Unreadable, TooLarge, NotListed, Unwritten, Unwritable, Uncounted, Told, Run}
 use Rattle.iso_run.specs.declared.run_fault.RunFault.{RunFault}
 use Rattle.iso_run.specs.declared.run_fault.RunFault.TheVariants.{Start, Lost, Memory, Write}
 use Rattle.iso_tap.specs.Sinks.{Account, HasFailed}
@@ -42,7 +42,7 @@ run_end _ = Refuses
 -- the fault of a command whose words are wrong, or where memory ran out as they were read
 abbrev pub words_fault : WordsFault → CommandFault
 words_fault (W.Wrong text) = Words text
-words_fault W.OutOfMemory = Run Memory None
+words_fault W.OutOfMemory = Run Memory None None
 
 -- how each fault of a command ends it
 abbrev pub command_end : CommandFault → End
@@ -54,8 +54,7 @@ command_end Unwritten = BreaksOff
 command_end (Unwritable name) = LacksFile
 command_end Uncounted = GivesUp
 command_end (Told failed) = cond failed GivesUp Refuses
-command_end (Run fault word) = run_end fault
-command_end (Explained fault word text) = run_end fault
+command_end (Run fault word text) = run_end fault
 
 -- the end that is answered
 abbrev pub end_of : {A F : Type 0} → (A → Bool) → (F → End) → Result A F → End

@@ -4,7 +4,7 @@ ghost use Rattle.iso_arguments.specs.RequestBounds.{AreInBounds};
 ghost use Rattle.iso_run.specs.Commands.{AreReads, IsAcceptedFor};
 ghost use Rattle.iso_run.specs.ExitStatuses.{ComesEarly};
 
-use crate::command::{named, with_mending};
+use crate::command::named;
 use crate::command_fault::CommandFault;
 use crate::error_messages::say;
 use crate::exit::FAILED;
@@ -66,7 +66,7 @@ fn accept_reads<'a, E: Sink>(
             Ok(())
         }
         Err(fault) if told.is_empty() => Err(named(alloc, fault, mending, bytes, files, false)),
-        Err(fault) => Err(CommandFault::Run(fault, None)),
+        Err(fault) => Err(CommandFault::Run(fault, None, None)),
     }
 }
 
@@ -119,7 +119,10 @@ impl Tally {
                 Ok(_) => {}
                 Err(SettingsError::Fault(fault)) => {
                     let text = settings_mending(alloc, &fault, bytes, files);
-                    self.tell(&with_mending(RunFault::Settings(fault), None, text), errors);
+                    self.tell(
+                        &CommandFault::Run(RunFault::Settings(fault), None, text),
+                        errors,
+                    );
                 }
                 Err(SettingsError::OutOfMemory) => {
                     self.tell(&CommandFault::out_of_memory(), errors);
@@ -142,7 +145,10 @@ impl Tally {
                 Ok(_) => {}
                 Err(SettingsError::Fault(fault)) => {
                     let text = world_mending(alloc, &fault, bytes, files);
-                    self.tell(&with_mending(RunFault::World(fault), None, text), errors);
+                    self.tell(
+                        &CommandFault::Run(RunFault::World(fault), None, text),
+                        errors,
+                    );
                 }
                 Err(SettingsError::OutOfMemory) => {
                     self.tell(&CommandFault::out_of_memory(), errors);
@@ -175,7 +181,7 @@ impl Tally {
                 let name = files.scripts.get(number).copied();
                 let text = mending.into_text();
                 self.tell(
-                    &with_mending(RunFault::Script(number, fault), name, text),
+                    &CommandFault::Run(RunFault::Script(number, fault), name, text),
                     errors,
                 );
             }

@@ -2,11 +2,12 @@
 ghost use Rattle.std.specs.Prelude.{◌≡◌, ◌≤◌, ℕ, List, None, Option, [], IfErr, IfSome, IsErrAnd, MatchResult, OnOk, false, true, option_map};
 ghost use Rattle.std.specs.Option.{option_copied};
 ghost use Rattle.iso_arguments.specs.RequestBounds.{AreInBounds, AsksInBounds, IsPlainRun, IsShard};
+ghost use Rattle.iso_arguments.specs.declared.request.Request.TheVariants.{Replay, Run};
 ghost use Rattle.iso_places.specs.declared.site.Site.{Site};
 ghost use Rattle.iso_plan.specs.KeptNodes.{texts_of};
 ghost use Rattle.iso_run.specs.Besides.{IsQuiet, IsSaid, NamesNone, files_of, parted, parts_of};
 ghost use Rattle.iso_run.specs.Courses.{IsUnasked};
-ghost use Rattle.iso_run.specs.Commands.{Answered, AnsweredBesides, ArePlaces, AreFor, Did, DidBesides, Ended, IsRefused, RanOn, WereRead, plan_of, shard_asked, way_of};
+ghost use Rattle.iso_run.specs.Commands.{Answered, AnsweredBesides, ArePlaces, AreFor, Did, DidBesides, Ended, IsPrintedFor, IsRefused, IsWrittenFor, RanOn, WereRead, plan_of, shard_asked, way_of};
 ghost use Rattle.iso_run.specs.ExitStatuses.{Answers, IfLate, IsEnded, IsFlushed, Refuses, command_end, end_of, exit_status, run_end, words_fault};
 ghost use Rattle.iso_run.specs.Runs.{Writes, suite_conflicts, suite_report};
 ghost use Rattle.iso_run.specs.declared.inputs.Inputs.{Inputs};
@@ -37,7 +38,7 @@ use crate::settings::show_settings;
 use crate::warning::looked_over;
 use crate::way::Way;
 use crate::workers::run_workers_shown;
-use iso_arguments::request::{InputFiles, Request, read_words};
+use iso_arguments::request::{Extras, InputFiles, Request, read_words};
 use iso_arguments::shard::Shard as AskedShard;
 use iso_arguments::wrong_words::WordsFault;
 use iso_lifecycle::gate::OpenGate;
@@ -162,27 +163,14 @@ fn answer_request<
             why,
             files,
         } => {
-            let read = read_files(rt, files, None, input)?;
-            let bytes = looked_over(rt.alloc(), read, files, false, errors)?;
-            let shown = plan(
-                rt.alloc(),
-                &bytes,
-                Printed {
-                    tests: *tests,
-                    places: *places,
-                    why: *why,
-                },
-                &*files,
-                output,
-            );
-            told(rt, shown, bytes, files, &Besides::nothing(), output, errors)
+            let printed = Printed {
+                tests: *tests,
+                places: *places,
+                why: *why,
+            };
+            answer_plan(rt, printed, files, input, output, errors)
         }
-        Request::Conflicts(files) => {
-            let read = read_files(rt, files, None, input)?;
-            let bytes = looked_over(rt.alloc(), read, files, false, errors)?;
-            let shown = conflicts(rt.alloc(), &bytes, &*files, output);
-            told(rt, shown, bytes, files, &Besides::nothing(), output, errors)
-        }
+        Request::Conflicts(files) => answer_conflicts(rt, files, input, output, errors),
         Request::Check(files) => {
             check(rt, files, input, errors)?;
             Ok(true)
@@ -203,47 +191,139 @@ fn answer_request<
             serial,
             extras,
             files,
-        } => {
-            let read = read_files(rt, files, None, input)?;
-            let bytes = looked_over(rt.alloc(), read, files, extras.github, errors)?;
-            let mut besides = Besides::new(rt.alloc(), *extras, &*files, bytes.processors);
-            let mut course = Course::asked(rt.alloc(), *extras);
-            let ran = run_shown(
-                rt,
-                &bytes,
-                asked_way(*serial),
-                &*files,
-                extras.progress,
-                terminal,
-                &mut besides.tells,
-                &mut course,
-                output,
-            );
-            besides.course = course;
-            told(rt, ran, bytes, files, &besides, output, errors)
-        }
+        } => answer_run(rt, *serial, *extras, files, input, output, errors, terminal),
         Request::Replay {
             schedule,
             extras,
             files,
-        } => {
-            let read = read_files(rt, files, Some(*schedule), input)?;
-            let bytes = looked_over(rt.alloc(), read, files, extras.github, errors)?;
-            let mut besides = Besides::new(rt.alloc(), *extras, &*files, bytes.processors);
-            let way = Way::BySchedule(&bytes.schedule);
-            let ran = run(
-                rt,
-                &bytes,
-                way,
-                &*files,
-                &mut Unshown,
-                &mut besides.tells,
-                &mut Course::nothing(),
-                output,
-            );
-            told(rt, ran, bytes, files, &besides, output, errors)
-        }
+        } => answer_replay(rt, *schedule, *extras, files, input, output, errors),
     }
+}
+
+/// Prints the plan for these files.
+fn answer_plan<'a, G: AllocGlobal + Files + Threads, R: Read, W: Sink, E: Sink>(
+    rt: &G,
+    printed: Printed,
+    files: &InputFiles<'a>,
+    input: &mut R,
+    output: &mut W,
+    errors: &mut E,
+) -> Result<bool, CommandFault<'a>>
+    requires { AreInBounds files.now }
+    ensures { Answers (IsPrintedFor printed files.now (R.remaining input.old)
+        (W.account output.old) (W.account output.new)) ⊥
+        (W.account output.old) (W.account output.new) result }
+{
+    let read = read_files(rt, files, None, input)?;
+    let bytes = looked_over(rt.alloc(), read, files, false, errors)?;
+    let shown = plan(rt.alloc(), &bytes, printed, &*files, output);
+    told(rt, shown, bytes, files, &Besides::nothing(), output, errors)
+}
+
+/// Prints who takes which key of the plan for these files.
+fn answer_conflicts<'a, G: AllocGlobal + Files + Threads, R: Read, W: Sink, E: Sink>(
+    rt: &G,
+    files: &InputFiles<'a>,
+    input: &mut R,
+    output: &mut W,
+    errors: &mut E,
+) -> Result<bool, CommandFault<'a>>
+    requires { AreInBounds files.now }
+    ensures { Answers (IsWrittenFor suite_conflicts files.now (R.remaining input.old) Serial
+        (W.account output.old) (W.account output.new)) ⊥
+        (W.account output.old) (W.account output.new) result }
+{
+    let read = read_files(rt, files, None, input)?;
+    let bytes = looked_over(rt.alloc(), read, files, false, errors)?;
+    let shown = conflicts(rt.alloc(), &bytes, &*files, output);
+    told(rt, shown, bytes, files, &Besides::nothing(), output, errors)
+}
+
+/// Runs the suite for these files on one thread or by workers, and tells what is asked for besides.
+fn answer_run<
+    'a,
+    G: AllocGlobal + Clock + Files + Threads + Wait + Copy + Send + Sync + Drop + 'static,
+    R: Read,
+    W: Sink,
+    E: Sink,
+    T: Eprint + IsTerminal + Copy + Send + Drop + 'static,
+>(
+    rt: &G,
+    serial: bool,
+    extras: Extras<'a>,
+    files: &InputFiles<'a>,
+    input: &mut R,
+    output: &mut W,
+    errors: &mut E,
+    terminal: T,
+) -> Result<bool, CommandFault<'a>>
+    requires { AreInBounds files.now }
+    ensures answers { Answers (Did (Run serial extras.entry files.now) (R.remaining input.old)
+        (W.account output.old) (W.account output.new))
+        (DidBesides (Run serial extras.entry files.now) (R.remaining input.old)
+        (W.account output.old) (W.account output.new))
+        (W.account output.old) (W.account output.new) result }
+    ensures refused { IsPlainRun (Run serial extras.entry files.now)
+        → IfErr result (λ fault. command_end fault ≡ Refuses → IsRefused (R.remaining input.old)) }
+    ensures quiet { IsPlainRun (Run serial extras.entry files.now) → errors.new ≡ errors.old }
+{
+    let read = read_files(rt, files, None, input)?;
+    let bytes = looked_over(rt.alloc(), read, files, extras.github, errors)?;
+    let mut besides = Besides::new(rt.alloc(), extras, &*files, bytes.processors);
+    let mut course = Course::asked(rt.alloc(), extras);
+    let ran = run_shown(
+        rt,
+        &bytes,
+        asked_way(serial),
+        &*files,
+        extras.progress,
+        terminal,
+        &mut besides.tells,
+        &mut course,
+        output,
+    );
+    besides.course = course;
+    told(rt, ran, bytes, files, &besides, output, errors)
+}
+
+/// Runs the suite for these files on one thread after the schedule of this name, and tells what is
+/// asked for besides.
+fn answer_replay<
+    'a,
+    G: AllocGlobal + Clock + Files + Threads + Wait + Sync,
+    R: Read,
+    W: Sink,
+    E: Sink,
+>(
+    rt: &G,
+    schedule: &'a str,
+    extras: Extras<'a>,
+    files: &InputFiles<'a>,
+    input: &mut R,
+    output: &mut W,
+    errors: &mut E,
+) -> Result<bool, CommandFault<'a>>
+    requires { AreInBounds files.now }
+    ensures { Answers (Did (Replay schedule.entry extras.entry files.now) (R.remaining input.old)
+        (W.account output.old) (W.account output.new))
+        (DidBesides (Replay schedule.entry extras.entry files.now) (R.remaining input.old)
+        (W.account output.old) (W.account output.new))
+        (W.account output.old) (W.account output.new) result }
+{
+    let read = read_files(rt, files, Some(schedule), input)?;
+    let bytes = looked_over(rt.alloc(), read, files, extras.github, errors)?;
+    let mut besides = Besides::new(rt.alloc(), extras, &*files, bytes.processors);
+    let ran = run(
+        rt,
+        &bytes,
+        Way::BySchedule(&bytes.schedule),
+        &*files,
+        &mut Unshown,
+        &mut besides.tells,
+        &mut Course::nothing(),
+        output,
+    );
+    told(rt, ran, bytes, files, &besides, output, errors)
 }
 
 /// Writes a text.
@@ -541,23 +621,9 @@ pub(crate) fn named<'a>(
     match fault {
         RunFault::Plan(PlanFault::NotSelected(index)) => not_selected(index, bytes, files, text),
         RunFault::Script(index, _) => {
-            with_mending(fault, files.scripts.get(index).copied(), text)
+            CommandFault::Run(fault, files.scripts.get(index).copied(), text)
         }
-        _ => with_mending(fault, None, text),
-    }
-}
-
-/// A fault of a run and the word that it is of, with what mends it, where that is known.
-pub(crate) fn with_mending<'a>(
-    fault: RunFault,
-    word: Option<&'a str>,
-    text: Option<MemorySink>,
-) -> CommandFault<'a>
-    ensures { command_end result ≡ run_end fault }
-{
-    match text {
-        Some(text) => CommandFault::Explained(fault, word, text),
-        None => CommandFault::Run(fault, word),
+        _ => CommandFault::Run(fault, None, text),
     }
 }
 
@@ -584,6 +650,6 @@ fn not_selected<'a>(
             index.saturating_sub(only + patterns),
             text,
         ),
-        _ => with_mending(RunFault::Plan(PlanFault::NotSelected(index)), word, text),
+        _ => CommandFault::Run(RunFault::Plan(PlanFault::NotSelected(index)), word, text),
     }
 }

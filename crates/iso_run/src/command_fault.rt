@@ -31,19 +31,17 @@ pub(crate) enum CommandFault<'a> {
     /// The path with this number of those that this file lists, counted from 0, names no class or
     /// test; and what mends it, where it is told.
     NotListed(Vec<u8>, usize, Option<MemorySink>),
-    /// A fault of the run, and the word that it is of: the name of a script, where one was named,
-    /// or a path.
-    Run(RunFault, Option<&'a str>),
-    /// The same, with a text that says what mends it.
-    Explained(RunFault, Option<&'a str>, MemorySink),
+    /// A fault of the run; the word that it is of: the name of a script, where one was named, or a
+    /// path; and what mends it, where it is told.
+    Run(RunFault, Option<&'a str>, Option<MemorySink>),
 }
 
 impl CommandFault<'_> {
     /// Memory ran out.
     pub fn out_of_memory() -> Self
-        ensures { result ≡ Run Memory None }
+        ensures { result ≡ Run Memory None None }
     {
-        CommandFault::Run(RunFault::Memory, None)
+        CommandFault::Run(RunFault::Memory, None, None)
     }
 
     /// The exit status: 2 where the input is refused, else 3.
@@ -58,7 +56,7 @@ impl CommandFault<'_> {
             | CommandFault::Unwritable(_)
             | CommandFault::Uncounted => FAILED,
             CommandFault::Told(failed) => if *failed { FAILED } else { WRONG_INPUT },
-            CommandFault::Run(fault, _) | CommandFault::Explained(fault, _, _) => fault.status(),
+            CommandFault::Run(fault, _, _) => fault.status(),
         }
     }
 }
@@ -75,7 +73,7 @@ impl From<WordsFault> for CommandFault<'_> {
 }
 
 impl From<AllocError> for CommandFault<'_> {
-    ghost from_gives = { λ _ fault. fault ≡ Run Memory None };
+    ghost from_gives = { λ _ fault. fault ≡ Run Memory None None };
 
     fn from(_error: AllocError) -> Self {
         CommandFault::out_of_memory()
@@ -83,7 +81,7 @@ impl From<AllocError> for CommandFault<'_> {
 }
 
 impl<T: Drop> From<AllocFailed<T>> for CommandFault<'_> {
-    ghost from_gives = { λ _ fault. fault ≡ Run Memory None };
+    ghost from_gives = { λ _ fault. fault ≡ Run Memory None None };
 
     fn from(_error: AllocFailed<T>) -> Self {
         CommandFault::out_of_memory()

@@ -38,7 +38,7 @@ impl fmt::Display for CommandFault<'_> {
             CommandFault::Unwritten => f.write_str(WRITE_FAILED),
             CommandFault::Told(_) => Ok(()),
             CommandFault::Uncounted => f.write_str("jtap: processors: cannot be read"),
-            CommandFault::Run(fault, word) | CommandFault::Explained(fault, word, _) => {
+            CommandFault::Run(fault, word, _) => {
                 let line = RunFaultLine { fault, word: *word };
                 write!(f, "{line}")
             }
@@ -186,7 +186,7 @@ pub(crate) fn say<E: Sink>(errors: &mut E, fault: &CommandFault<'_>) {
     }
     let mut writer = SinkWriter { sink: errors };
     let _ = fmt::Write::writeln(&mut writer, fault);
-    if let CommandFault::Explained(_, _, text) | CommandFault::NotListed(_, _, Some(text)) = fault {
+    if let CommandFault::Run(_, _, Some(text)) | CommandFault::NotListed(_, _, Some(text)) = fault {
         let _ = Printer::new(errors).bytes(text.bytes());
     }
 }

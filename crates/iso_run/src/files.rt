@@ -308,7 +308,7 @@ pub(crate) fn write_file<G: Files>(rt: &G, name: &str, bytes: &[u8]) -> io::Resu
 
 /// Why a file was not read.
 pub(crate) fn unread<'a>(error: &io::Error, name: &'a str) -> CommandFault<'a>
-    ensures memory { error_kind error.now ≡ OutOfMemory → result ≡ Run Memory None }
+    ensures memory { error_kind error.now ≡ OutOfMemory → result ≡ Run Memory None None }
     ensures other { (error_kind error.now ≡ OutOfMemory → ⊥) → result ≡ Unreadable name.entry }
 {
     if error.kind() == io::ErrorKind::OutOfMemory {

@@ -10,7 +10,7 @@ ghost use Rattle.iso_settings.specs.Leaves.{leaves};
 ghost use Rattle.iso_tap.specs.Sinks.{Wrote};
 ghost use Rattle.toml.specs.Data.{Members};
 
-use crate::command::{flushed, with_mending};
+use crate::command::flushed;
 use crate::command_fault::CommandFault;
 use crate::files::read_document;
 use crate::inputs::settings_from;
@@ -118,7 +118,7 @@ fn refused<'a>(
     if explain {
         text = mended(alloc, &fault, name.unwrap_or(SETTINGS), bytes);
     }
-    with_mending(RunFault::Settings(fault), None, text)
+    CommandFault::Run(RunFault::Settings(fault), None, text)
 }
 
 /// What mends settings, where memory is left.
