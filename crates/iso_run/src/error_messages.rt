@@ -6,9 +6,8 @@ use iso_schedule::fault::ScheduleFault;
 use iso_script::fault::ScriptFault;
 use iso_settings::fault::SettingsFault;
 use iso_summary::unseen::is_unseen;
-use iso_tap::printer::Printer;
-use iso_tap::sink::Sink;
-use iso_tap::text::write_text;
+use iso_tap::buffered::BufferedPrinter;
+use iso_tap::sink::{Sink, SinkFailed};
 use std::fmt;
 
 /// What standard input is called.
@@ -184,24 +183,36 @@ pub(crate) fn say<E: Sink>(errors: &mut E, fault: &CommandFault<'_>) {
     if let CommandFault::Told(_) = fault {
         return;
     }
-    let mut writer = SinkWriter { sink: errors };
-    let _ = fmt::Write::writeln(&mut writer, fault);
+    let mut writer = SinkWriter {
+        printer: BufferedPrinter::new(errors),
+    };
+    let _ = write_fault(&mut writer, fault);
+}
+
+/// Writes a fault's line, and what mends it, where that is told.
+fn write_fault<E: Sink>(writer: &mut SinkWriter<'_, E>, fault: &CommandFault<'_>) -> fmt::Result {
+    fmt::Write::writeln(writer, fault)?;
     if let CommandFault::Run(_, _, Some(text)) | CommandFault::NotListed(_, _, Some(text)) = fault {
-        let _ = Printer::new(errors).bytes(text.bytes());
+        written(writer.printer.bytes(text.bytes()))?;
     }
+    written(writer.printer.flush())
 }
 
 /// Writes text to a sink, as far as the sink takes it.
 #[derive(Drop)]
 struct SinkWriter<'a, E: Sink> {
-    sink: &'a mut E,
+    printer: BufferedPrinter<'a, E>,
 }
 
 impl<E: Sink> fmt::Write for SinkWriter<'_, E> {
     fn write_str(&mut self, text: &str) -> fmt::Result {
-        match write_text(text, &mut *self.sink) {
-            Ok(()) => Ok(()),
-            Err(_) => Err(fmt::Error),
-        }
+        written(self.printer.bytes(text.as_bytes()))
+    }
+}
+
+fn written(printed: Result<(), SinkFailed>) -> fmt::Result {
+    match printed {
+        Ok(()) => Ok(()),
+        Err(_) => Err(fmt::Error),
     }
 }

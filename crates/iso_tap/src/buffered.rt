@@ -18,7 +18,7 @@ const ROOM: usize = 512;
 /// A printer whose texts stand in a buffer until it is full or flushed. Once the sink has failed,
 /// it is only dropped.
 #[derive(Drop)]
-pub(crate) struct BufferedPrinter<'a, W: Sink> {
+pub struct BufferedPrinter<'a, W: Sink> {
     sink: &'a mut W,
     written: u64,
     held: ArrayVec<u8, ROOM>,
@@ -30,7 +30,7 @@ impl<'a, W: Sink> BufferedPrinter<'a, W> {
     ghost use Rattle.iso_tap.specs.Printers.{Prints};
 
     /// A printer to this sink, which wrote nothing, with an empty buffer.
-    pub(crate) fn new(sink: &'a mut W) -> BufferedPrinter<'a, W>
+    pub fn new(sink: &'a mut W) -> BufferedPrinter<'a, W>
         ensures sink { result.sink.ghost_name ≡ sink.entry.ghost_name }
         ensures now { result.sink.now ≡ sink.old }
         ensures written { result.written ≡ 0 }
@@ -51,7 +51,7 @@ impl<'a, W: Sink> BufferedPrinter<'a, W> {
     }
 
     /// Writes what the buffer holds.
-    pub(crate) fn flush(&mut self) -> Result<(), SinkFailed>
+    pub fn flush(&mut self) -> Result<(), SinkFailed>
         ensures prints { Prints (printer_of self.old) (printer_of self.new)
             self.old.held.items result }
         ensures empty { OnOk result (self.new.held.items ≡ []) }
@@ -65,7 +65,7 @@ impl<'a, W: Sink> BufferedPrinter<'a, W> {
 
     /// Adds bytes.
     #[inline(always)]
-    pub(crate) fn bytes(&mut self, bytes: &[u8]) -> Result<(), SinkFailed>
+    pub fn bytes(&mut self, bytes: &[u8]) -> Result<(), SinkFailed>
         ensures { Buffers self.old self.new bytes.now result }
     {
         match self.held.try_extend_from_slice(bytes) {

@@ -2,7 +2,7 @@
 #![tactic(auto)]
 
 mod blocks;
-mod buffered;
+pub mod buffered;
 pub mod escape;
 pub mod examples;
 pub mod fault;
