@@ -121,7 +121,7 @@ pub(crate) fn command_line<'a>(alloc: Global) -> Result<Command<'a>, AllocError>
 fn first_page<'a>(alloc: Global) -> Result<Command<'a>, AllocError> {
     Command::new(alloc, "jtap")
         .no_binary_name(true)
-        .version("0.2.11")
+        .version("0.2.12")
         .about(ABOUT)
         .after_help(FIRST_PAGE_END)
         .disable_help_subcommand(true)
