@@ -121,7 +121,7 @@ pub(crate) fn command_line<'a>(alloc: Global) -> Result<Command<'a>, AllocError>
 fn first_page<'a>(alloc: Global) -> Result<Command<'a>, AllocError> {
     Command::new(alloc, "jtap")
         .no_binary_name(true)
-        .version("0.2.12")
+        .version("0.2.13")
         .about(ABOUT)
         .after_help(FIRST_PAGE_END)
         .disable_help_subcommand(true)
@@ -222,16 +222,31 @@ fn with_inputs<'a>(
     alloc: Global,
     command: Result<Command<'a>, AllocError>,
 ) -> Result<Command<'a>, AllocError> {
+    let command = with_selection(alloc, with_start(alloc, command));
+    command?.arg(explain(alloc))?.arg(scripts(alloc))
+}
+
+/// A command with the options for what a run begins with, if it could be made.
+fn with_start<'a>(
+    alloc: Global,
+    command: Result<Command<'a>, AllocError>,
+) -> Result<Command<'a>, AllocError> {
     command?
         .arg(settings(alloc))?
         .arg(world(alloc))?
-        .arg(processors(alloc))?
+        .arg(processors(alloc))
+}
+
+/// A command with the options for which classes and tests are kept, if it could be made.
+fn with_selection<'a>(
+    alloc: Global,
+    command: Result<Command<'a>, AllocError>,
+) -> Result<Command<'a>, AllocError> {
+    command?
         .arg(only(alloc))?
         .arg(pattern(alloc))?
         .arg(only_from(alloc))?
-        .arg(shard(alloc))?
-        .arg(explain(alloc))?
-        .arg(scripts(alloc))
+        .arg(shard(alloc))
 }
 
 fn serial<'a>(alloc: Global) -> Arg<'a> {

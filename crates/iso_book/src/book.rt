@@ -36,7 +36,6 @@ use std::snapshot::Snapshot;
 /// Contracts see the plan and the world that it was made for, the number of workers, the history,
 /// and whether it was stopped. That the history in full is a run, and that all else is of the state
 /// that this run gives, is kept by the type.
-#[derive(Drop)]
 pub struct Book<'a> {
     plan: &'a Plan,
     world: &'a World,
@@ -46,6 +45,20 @@ pub struct Book<'a> {
     results: Results<'a>,
     /// It has room for every event of the plan.
     history: Vec<Event>,
+}
+
+impl<'a> Drop for Book<'a> {
+    fn drop(self) {
+        let Book {
+            plan: _,
+            world: _,
+            workers: _,
+            standing: _,
+            vault: _,
+            results: _,
+            history: _,
+        } = self;
+    }
 }
 
 impl<'a> Model for Book<'a> {

@@ -17,10 +17,18 @@ use std::alloc::{AllocError, Global};
 use std::marker::Model;
 
 /// The critical bodies of a run. Contracts see them from the one that ended last on.
-#[derive(Drop)]
 pub struct CriticalBodies {
     bodies: Vec<Body>,
     marks: Vec<bool>,
+}
+
+impl Drop for CriticalBodies {
+    fn drop(self) {
+        let CriticalBodies {
+            bodies: _,
+            marks: _,
+        } = self;
+    }
 }
 
 impl Model for CriticalBodies {

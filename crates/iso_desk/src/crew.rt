@@ -33,12 +33,20 @@ impl Member {
 }
 
 /// The workers of a desk.
-#[derive(Drop)]
 pub struct Crew {
     members: Vec<Member>,
     /// How many wait and weren't called since: mostly none, and then nobody is looked for.
     awaiting: usize,
     ghost counted: { awaiting ≡ awaiting_in members.items },
+}
+
+impl Drop for Crew {
+    fn drop(self) {
+        let Crew {
+            members: _,
+            awaiting: _,
+        } = self;
+    }
 }
 
 impl Crew {

@@ -5,9 +5,14 @@ ghost use Rattle.iso_desk.specs.Marking.{bit, has, room, word_of};
 use std::alloc::{AllocError, Global};
 
 /// A set of numbers, for each of which it has room.
-#[derive(Drop)]
 pub struct Marks {
     words: Vec<u64>,
+}
+
+impl Drop for Marks {
+    fn drop(self) {
+        let Marks { words: _ } = self;
+    }
 }
 
 impl Marks {

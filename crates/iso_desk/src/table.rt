@@ -27,7 +27,6 @@ use std::marker::Model;
 const MIDDLE: u64 = 1 << 63;
 
 /// Where each node stands, and the lines.
-#[derive(Drop)]
 pub struct Table {
     workers: u32,
     places: Vec<Place>,
@@ -38,6 +37,19 @@ pub struct Table {
     /// next at the front of one.
     clock: u64,
     front: u64,
+}
+
+impl Drop for Table {
+    fn drop(self) {
+        let Table {
+            workers: _,
+            places: _,
+            next: _,
+            ends: _,
+            clock: _,
+            front: _,
+        } = self;
+    }
 }
 
 impl Model for Table {

@@ -21,10 +21,15 @@ pub(crate) struct Timed {
 
 /// Room for the times of nodes. It is made before a run, so that nothing grows after it. Contracts
 /// see for how many nodes it is.
-#[derive(Drop)]
 pub struct Durations {
     nodes: u32,
     room: Vec<Timed>,
+}
+
+impl Drop for Durations {
+    fn drop(self) {
+        let Durations { nodes: _, room: _ } = self;
+    }
 }
 
 impl Model for Durations {
@@ -53,7 +58,7 @@ impl Durations {
             (measured (tree_of plan.now) times.now) }
     {
         laws::nodes_are_a_tree(plan);
-        let Durations { room, .. } = self;
+        let Durations { nodes: _, room } = self;
         let mut timed = room;
         'nodes: for node in 1..plan.len() {
             if let Some(micros) = time(times, node) {

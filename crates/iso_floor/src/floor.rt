@@ -29,7 +29,6 @@ use std::sync::{Condvar, Mutex, Wait};
 /// lock is held alone; its clauses tell what it does to the worker's seat.
 ///
 /// Contracts see the number of workers; the plan and the starting values are those of the ground.
-#[derive(Drop)]
 pub struct Floor<'a, G: Ground> {
     plan: &'a Plan,
     world: &'a World,
@@ -41,6 +40,20 @@ pub struct Floor<'a, G: Ground> {
     called: Vec<Condvar>,
     /// A place for each event that a history may have, for the comparison with the receipts.
     marks: Vec<bool>,
+}
+
+impl<'a, G: Ground> Drop for Floor<'a, G> {
+    fn drop(self) {
+        let Floor {
+            plan: _,
+            world: _,
+            workers: _,
+            desk: _,
+            changed: _,
+            called: _,
+            marks: _,
+        } = self;
+    }
 }
 
 impl<'a, G: Ground> Model for Floor<'a, G> {
@@ -211,9 +224,13 @@ impl<'a, G: Ground> Floor<'a, G> {
             (λ b. IsCloseFault b (lists_of seats.entry.items) fault)) }
     {
         let Floor {
+            plan: _,
+            world: _,
+            workers: _,
             desk,
+            changed: _,
+            called: _,
             mut marks,
-            ..
         } = self;
         let book = desk.into_inner().into_book();
         settle(book, &seats, &mut marks)

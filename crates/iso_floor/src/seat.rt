@@ -27,7 +27,6 @@ use std::mem;
 use std::sync::Wait;
 
 /// A worker's number, its tray, the receipts of its Leaves, and what it has of the deques.
-#[derive(Drop)]
 pub struct Seat<'a, G: Ground> {
     worker: u32,
     tray: Tray<'a>,
@@ -37,6 +36,19 @@ pub struct Seat<'a, G: Ground> {
     /// Whether the scheduler had something for this worker after its last Leave.
     is_called: bool,
     of: PhantomData<G>,
+}
+
+impl<'a, G: Ground> Drop for Seat<'a, G> {
+    fn drop(self) {
+        let Seat {
+            worker: _,
+            tray: _,
+            receipts: _,
+            posts: _,
+            is_called: _,
+            of: _,
+        } = self;
+    }
 }
 
 impl<'a, G: Ground> Model for Seat<'a, G> {

@@ -63,7 +63,6 @@ pub struct BlockEnd {
 
 /// A run of a block (JUnit 5, a method of a test's life cycle), one step at a time.
 /// After running out of memory it can only be dropped.
-#[derive(Drop)]
 pub struct BlockRun<'a> {
     alloc: Global,
     rights: &'a Rights,
@@ -75,6 +74,22 @@ pub struct BlockRun<'a> {
     top: Option<Pending<'a>>,
     below: Vec<Pending<'a>>,
     ghost stacked: { top ≡ None → below.items ≡ [] },
+}
+
+impl<'a> Drop for BlockRun<'a> {
+    fn drop(self) {
+        let BlockRun {
+            alloc: _,
+            rights: _,
+            names: _,
+            lines: _,
+            ending: _,
+            before: _,
+            looks: _,
+            top: _,
+            below: _,
+        } = self;
+    }
 }
 
 impl<'a> BlockRun<'a> {
@@ -162,11 +177,15 @@ impl<'a> BlockRun<'a> {
             (take (names_before self.entry) (local_of self.entry).env.names) (local_of self.entry) }
     {
         let BlockRun {
+            alloc: _,
+            rights: _,
             names,
             lines,
             ending,
             before,
-            ..
+            looks: _,
+            top: _,
+            below: _,
         } = self;
         let mut names = names;
         names.keep(before);

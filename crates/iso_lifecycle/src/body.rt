@@ -26,7 +26,6 @@ use std::snapshot::Snapshot;
 
 /// A body of a node of a plan: a class's `before_all` or `after_all`, or a whole test (JUnit 5,
 /// test lifecycle). Once out of memory in a step it never ends, and can only be dropped.
-#[derive(Drop)]
 pub struct Body<'a> {
     alloc: Global,
     pub(crate) origin: Origin<'a>,
@@ -37,6 +36,18 @@ pub struct Body<'a> {
     ghost rights: { HasRights (subject_of_origin origin) (rights_of run.value) } by { HasRights-prop (subject_of_origin origin) (rights_of run.value) },
     ghost come: { HasCome (kind_of_origin origin) (subject_of_origin origin) (stage_of run.value) } by { HasCome-prop (kind_of_origin origin) (subject_of_origin origin) (stage_of run.value) },
     ghost left: { HasLeft (kind_of_origin origin) (subject_of_origin origin) (stage_of run.value) frame } by { HasLeft-prop (kind_of_origin origin) (subject_of_origin origin) (stage_of run.value) frame },
+}
+
+impl<'a> Drop for Body<'a> {
+    fn drop(self) {
+        let Body {
+            alloc: _,
+            origin: _,
+            run: _,
+            outer: _,
+            frame: _,
+        } = self;
+    }
 }
 
 impl<'a> Body<'a> {
@@ -206,10 +217,11 @@ impl<'a> Body<'a> {
         ensures kind { result.kind ≡ kind_of_body self.entry }
     {
         let Body {
+            alloc: _,
             origin,
             run,
+            outer: _,
             frame,
-            ..
         } = self;
         laws::chains_grow_down(origin.plan);
         let end = Box::into_inner(run).finish();

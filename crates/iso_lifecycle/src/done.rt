@@ -14,18 +14,35 @@ use std::marker::Model;
 use std::snapshot::Snapshot;
 
 /// The frame that a `before_all` left, how it ended, and what it printed.
-#[derive(Drop)]
 pub(crate) struct Opened {
     pub(crate) frame: Frame,
     pub(crate) ending: KeptEnding,
     pub(crate) lines: Lines,
 }
 
+impl Drop for Opened {
+    fn drop(self) {
+        let Opened {
+            frame: _,
+            ending: _,
+            lines: _,
+        } = self;
+    }
+}
+
 /// How an `after_all` ended, and what it printed.
-#[derive(Drop)]
 pub(crate) struct Closed {
     pub(crate) ending: KeptEnding,
     pub(crate) lines: Lines,
+}
+
+impl Drop for Closed {
+    fn drop(self) {
+        let Closed {
+            ending: _,
+            lines: _,
+        } = self;
+    }
 }
 
 /// What a body came to.

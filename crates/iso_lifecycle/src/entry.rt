@@ -9,12 +9,22 @@ use std::mem;
 
 /// What was put of a node: nothing yet, the outcome of a test, the `before_all` of a class, or that
 /// and then its `after_all`.
-#[derive(Drop)]
 pub(crate) enum Entry {
     Empty,
     Tested(KeptOutcome),
     Opened(KeptOpening),
     Closed(KeptOpening, Closed),
+}
+
+impl Drop for Entry {
+    fn drop(self) {
+        match self {
+            Entry::Empty => {}
+            Entry::Tested(_) => {}
+            Entry::Opened(_) => {}
+            Entry::Closed(_, _) => {}
+        }
+    }
 }
 
 impl Entry {

@@ -13,13 +13,24 @@ use std::sync::Arc;
 
 /// The frozen statics of a class, and its fields at their literals. The start is a snapshot of its
 /// body's, since one makes no second snapshot of a world.
-#[derive(Drop)]
 pub(crate) struct Statics {
     pub(crate) plan: Snapshot<Plan>,
     pub(crate) start: Snapshot<Snapshot<World>>,
     pub(crate) node: u32,
     pub(crate) names: SharedNames,
     pub(crate) fields: SharedNames,
+}
+
+impl Drop for Statics {
+    fn drop(self) {
+        let Statics {
+            plan: _,
+            start: _,
+            node: _,
+            names: _,
+            fields: _,
+        } = self;
+    }
 }
 
 impl Model for Statics {
@@ -40,9 +51,14 @@ impl Model for Statics {
 /// owners share them.
 ///
 /// Contracts see the class, its plan and the start.
-#[derive(Drop)]
 pub struct Frame {
     pub(crate) statics: Arc<Statics>,
+}
+
+impl Drop for Frame {
+    fn drop(self) {
+        let Frame { statics: _ } = self;
+    }
 }
 
 impl Model for Frame {

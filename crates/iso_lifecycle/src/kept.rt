@@ -57,10 +57,18 @@ impl KeptEnding {
 
 /// The outcome of a test: the endings of its blocks that its verdict is made of, and what it
 /// printed.
-#[derive(Drop)]
 pub(crate) struct KeptOutcome {
     others: Vec<Ending>,
     lines: Lines,
+}
+
+impl Drop for KeptOutcome {
+    fn drop(self) {
+        let KeptOutcome {
+            others: _,
+            lines: _,
+        } = self;
+    }
 }
 
 impl Model for KeptOutcome {

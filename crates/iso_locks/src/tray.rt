@@ -45,7 +45,6 @@ use std::snapshot::Snapshot;
 ///
 /// Contracts see the plan and the world that it was made for, the nodes that are lent to it, the
 /// values that were moved into it, each with its history, and the frames that were handed to it.
-#[derive(Drop)]
 pub struct Tray<'a> {
     plan: &'a Plan,
     world: &'a World,
@@ -60,6 +59,22 @@ pub struct Tray<'a> {
     handed: Option<u32>,
     /// Where frames are gathered before they are handed.
     spare: Vec<Frame>,
+}
+
+impl<'a> Drop for Tray<'a> {
+    fn drop(self) {
+        let Tray {
+            plan: _,
+            world: _,
+            flat: _,
+            lent: _,
+            values: _,
+            starts: _,
+            frames: _,
+            handed: _,
+            spare: _,
+        } = self;
+    }
 }
 
 impl<'a> Model for Tray<'a> {

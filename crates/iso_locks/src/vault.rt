@@ -34,7 +34,6 @@ pub struct Busy {
 }
 
 /// The values that are lent to nobody, each at its start, and the nodes that are lent.
-#[derive(Drop)]
 pub struct Vault<'a> {
     plan: &'a Plan,
     world: &'a World,
@@ -42,6 +41,18 @@ pub struct Vault<'a> {
     /// Whether each node takes all keys but the global one alike, or none of them.
     is_one_group: bool,
     values: Slots,
+}
+
+impl<'a> Drop for Vault<'a> {
+    fn drop(self) {
+        let Vault {
+            plan: _,
+            world: _,
+            lent: _,
+            is_one_group: _,
+            values: _,
+        } = self;
+    }
 }
 
 impl<'a> Model for Vault<'a> {

@@ -191,12 +191,7 @@ impl Bindings {
         ensures err { OnErr result (self.new ≡ self.old) }
     {
         if self.own.len() > 0 {
-            let count = self.len();
-            let added = self.append_copies(alloc, &more);
-            if added.is_err() {
-                self.keep(count);
-            }
-            return added;
+            return self.append_all_copies(alloc, &more);
         }
         if self.outer.checked_add(more.len()).is_none() {
             return Err(AllocError);
@@ -207,6 +202,19 @@ impl Bindings {
         self.outer += outer;
         self.own = own;
         Ok(())
+    }
+
+    /// Adds names that are equal to these.
+    fn append_all_copies(&mut self, alloc: Global, more: &Bindings) -> Result<(), AllocError>
+        ensures ok { OnOk result (self.new ≡ self.old ++ more.now) }
+        ensures err { OnErr result (self.new ≡ self.old) }
+    {
+        let count = self.len();
+        let added = self.append_copies(alloc, more);
+        if added.is_err() {
+            self.keep(count);
+        }
+        added
     }
 
     /// Adds names that are equal to these, or some of them where memory runs out.

@@ -85,10 +85,18 @@ pub struct ClassContents {
 }
 
 /// What a class gives to the tests under it. Heads with other marks share its contents.
-#[derive(Drop)]
 pub struct ClassHead {
     pub marks: SharedList<Mark>,
     pub contents: Arc<ClassContents>,
+}
+
+impl Drop for ClassHead {
+    fn drop(self) {
+        let ClassHead {
+            marks: _,
+            contents: _,
+        } = self;
+    }
 }
 
 /// What a test itself has, but for its marks.
@@ -100,8 +108,16 @@ pub struct TestContents {
 }
 
 /// What a test itself has. Heads with other marks share its contents.
-#[derive(Drop)]
 pub struct TestHead {
     pub marks: SharedList<Mark>,
     pub contents: Arc<TestContents>,
+}
+
+impl Drop for TestHead {
+    fn drop(self) {
+        let TestHead {
+            marks: _,
+            contents: _,
+        } = self;
+    }
 }

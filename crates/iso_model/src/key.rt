@@ -11,9 +11,14 @@ use std::sync::Arc;
 
 /// The key of a declared resource or lock, which contracts see as its spelling. Equal keys may
 /// share it.
-#[derive(Drop)]
 pub struct Key {
     spelling: Arc<Text>,
+}
+
+impl Drop for Key {
+    fn drop(self) {
+        let Key { spelling: _ } = self;
+    }
 }
 
 impl Model for Key {

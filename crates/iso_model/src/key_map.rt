@@ -13,9 +13,14 @@ use std::marker::Model;
 
 /// Values by key, each key once. They stand in the order of their keys, so that a look-up compares
 /// few of them.
-#[derive(Drop)]
 pub struct KeyMap<V> {
     entries: Vec<(Key, V)>,
+}
+
+impl<V: Drop> Drop for KeyMap<V> {
+    fn drop(self) {
+        let KeyMap { entries: _ } = self;
+    }
 }
 
 impl<V> Model for KeyMap<V> {

@@ -10,9 +10,14 @@ const LINE_END: u8 = 0xFF;
 
 /// Lines of text, as a body prints them, without their line ends. A line may have line feeds in it.
 /// They take a byte for each of their bytes, and one for each line.
-#[derive(Drop)]
 pub struct Lines {
     bytes: Vec<u8>,
+}
+
+impl Drop for Lines {
+    fn drop(self) {
+        let Lines { bytes: _ } = self;
+    }
 }
 
 impl Model for Lines {

@@ -11,9 +11,14 @@ use crate::touch::Touch;
 use std::alloc::{AllocError, Global};
 
 /// Resources in memory, each of which may be changed.
-#[derive(Drop)]
 pub struct Memory {
     slots: Vec<(Key, Resource)>,
+}
+
+impl Drop for Memory {
+    fn drop(self) {
+        let Memory { slots: _ } = self;
+    }
 }
 
 impl Memory {

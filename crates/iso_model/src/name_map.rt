@@ -16,9 +16,14 @@ pub trait Same {
 }
 
 /// A map from names to values, each name once.
-#[derive(Drop)]
 pub struct NameMap<V> {
     entries: BTreeMap<String, V>,
+}
+
+impl<V: Drop> Drop for NameMap<V> {
+    fn drop(self) {
+        let NameMap { entries: _ } = self;
+    }
 }
 
 impl<V> Model for NameMap<V> {
@@ -81,7 +86,8 @@ impl<V: Drop> IntoIterator for NameMap<V> {
     ghost into_iter_gives = { λ m r. (map_of r ≡ m) × RiseByName r };
 
     fn into_iter(self) -> IntoIter<String, V, Global> {
-        self.entries.into_iter()
+        let NameMap { entries } = self;
+        entries.into_iter()
     }
 }
 

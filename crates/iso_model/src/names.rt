@@ -78,7 +78,6 @@ pub enum AssignFault {
 
 /// The environment of a block: the visible names, the steps left in the block, the bytes that its
 /// body has printed so far, and the words that name the block in a place.
-#[derive(Drop)]
 pub struct Names {
     bindings: Bindings,
     /// Where the name stands that was assigned last, or the first name. Unless it is shared, it is
@@ -87,6 +86,18 @@ pub struct Names {
     steps: u32,
     printed: u32,
     block: BlockName,
+}
+
+impl Drop for Names {
+    fn drop(self) {
+        let Names {
+            bindings: _,
+            recent: _,
+            steps: _,
+            printed: _,
+            block: _,
+        } = self;
+    }
 }
 
 impl Model for Names {
@@ -269,7 +280,14 @@ impl Names {
     pub fn into_bindings(self) -> Bindings
         ensures { result ≡ self.names }
     {
-        self.bindings
+        let Names {
+            bindings,
+            recent: _,
+            steps: _,
+            printed: _,
+            block: _,
+        } = self;
+        bindings
     }
 
     /// Takes a step, and answers whether one was left.

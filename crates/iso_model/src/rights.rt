@@ -88,9 +88,14 @@ impl Layer {
 /// counts.
 ///
 /// The innermost layer stands first. The descendants of a class share the layers of that class.
-#[derive(Drop)]
 pub struct Rights {
     layers: Vec<Arc<Layer>>,
+}
+
+impl Drop for Rights {
+    fn drop(self) {
+        let Rights { layers: _ } = self;
+    }
 }
 
 impl Model for Rights {

@@ -6,9 +6,14 @@ use std::marker::Model;
 use std::sync::Arc;
 
 /// A list that no owner changes. Contracts see its items. One without items takes no memory.
-#[derive(Drop)]
 pub struct SharedList<T> {
     items: Option<Arc<Vec<T>>>,
+}
+
+impl<T: Drop> Drop for SharedList<T> {
+    fn drop(self) {
+        let SharedList { items: _ } = self;
+    }
 }
 
 impl<T> Model for SharedList<T> {

@@ -8,9 +8,14 @@ use std::marker::Model;
 use std::sync::Arc;
 
 /// Names with their values, which no owner changes.
-#[derive(Drop)]
 pub struct SharedNames {
     names: Arc<NameList>,
+}
+
+impl Drop for SharedNames {
+    fn drop(self) {
+        let SharedNames { names: _ } = self;
+    }
 }
 
 impl Model for SharedNames {

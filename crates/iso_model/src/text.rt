@@ -5,9 +5,14 @@ use std::alloc::{AllocError, Global};
 use std::marker::Model;
 
 /// A text, which contracts see as its bytes.
-#[derive(Drop)]
 pub struct Text {
     inner: String,
+}
+
+impl Drop for Text {
+    fn drop(self) {
+        let Text { inner: _ } = self;
+    }
 }
 
 impl Model for Text {
@@ -30,7 +35,8 @@ impl Text {
     pub fn into_string(self) -> String
         ensures { string_bytes result ≡ self }
     {
-        self.inner
+        let Text { inner } = self;
+        inner
     }
 
     /// A text with these bytes.

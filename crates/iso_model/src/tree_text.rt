@@ -7,9 +7,14 @@ use std::marker::Model;
 
 /// A text as the tree of a script keeps it, which contracts see as its bytes. One of at most 14
 /// bytes of ASCII, as most names are, takes no memory beside the tree's own.
-#[derive(Drop)]
 pub struct TreeText {
     kept: Kept,
+}
+
+impl Drop for TreeText {
+    fn drop(self) {
+        let TreeText { kept: _ } = self;
+    }
 }
 
 /// Where the bytes of a text are.

@@ -8,9 +8,14 @@ use std::alloc::{AllocError, Global};
 use std::marker::Model;
 
 /// Where the lines of a script start, which contracts see as the list of these places.
-#[derive(Drop)]
 pub struct LineTable {
     starts: Vec<u32>,
+}
+
+impl Drop for LineTable {
+    fn drop(self) {
+        let LineTable { starts: _ } = self;
+    }
 }
 
 impl Model for LineTable {

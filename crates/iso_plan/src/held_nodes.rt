@@ -18,11 +18,20 @@ use std::marker::Model;
 
 /// The held nodes of a plan. Contracts see these alone; beside them stands how many of them read
 /// and write each lead of a group of keys.
-#[derive(Drop)]
 pub struct HeldNodes<'a> {
     plan: &'a Plan,
     held: NodeSet,
     uses: Vec<KeyUse>,
+}
+
+impl<'a> Drop for HeldNodes<'a> {
+    fn drop(self) {
+        let HeldNodes {
+            plan: _,
+            held: _,
+            uses: _,
+        } = self;
+    }
 }
 
 /// How many held nodes read a key, and how many write it.

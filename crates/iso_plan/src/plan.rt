@@ -47,7 +47,6 @@ use std::sync::Arc;
 /// The plan that every run follows: the tree of classes and tests, its nodes numbered in preorder
 /// from the root, which is number 0, each with its class chain; and the keys that are marked on
 /// them, numbered. It lends what it answers, and takes no memory for it.
-#[derive(Drop)]
 pub struct Plan {
     rows: Vec<Row>,
     settings: Settings,
@@ -64,6 +63,26 @@ pub struct Plan {
     leads: Vec<u32>,
     /// None where each key is the lead of its group: then they are all locks.
     lead_locks: Option<Vec<SharedList<Lock>>>,
+}
+
+impl Drop for Plan {
+    fn drop(self) {
+        let Plan {
+            rows: _,
+            settings: _,
+            children: _,
+            chains: _,
+            rights: _,
+            keys: _,
+            numbers: _,
+            locking: _,
+            locks: _,
+            modes: _,
+            depth: _,
+            leads: _,
+            lead_locks: _,
+        } = self;
+    }
 }
 
 impl Model for Plan {

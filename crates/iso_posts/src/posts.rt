@@ -7,12 +7,20 @@ use crate::thief::Thief;
 use std::alloc::{AllocError, Global};
 
 /// What a worker of a pool has of its deques.
-#[derive(Drop)]
 pub struct PostSeat {
     /// Of its own deque.
     pub owner: Owner,
     /// Of every other worker's deque, in the order of the workers.
     pub thieves: Vec<Thief>,
+}
+
+impl Drop for PostSeat {
+    fn drop(self) {
+        let PostSeat {
+            owner: _,
+            thieves: _,
+        } = self;
+    }
 }
 
 /// The deques of a pool.

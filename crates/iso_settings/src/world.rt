@@ -22,11 +22,20 @@ use toml::{Table, Value};
 
 /// The values that resources start with. How they are kept stays hidden.
 /// Each stands here once, and whoever looks at it alone shares it.
-#[derive(Drop)]
 pub struct World {
     files: FileStarts,
     locale: LocaleStart,
     properties: PropertiesStart,
+}
+
+impl Drop for World {
+    fn drop(self) {
+        let World {
+            files: _,
+            locale: _,
+            properties: _,
+        } = self;
+    }
 }
 
 impl Model for World {

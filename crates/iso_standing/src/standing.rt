@@ -26,7 +26,6 @@ use std::marker::Model;
 
 /// Where all nodes and workers stand: what decides whether an event is refused, but for whether a
 /// body has ended.
-#[derive(Drop)]
 pub struct Standing<'a> {
     plan: &'a Plan,
     phases: Vec<Phase>,
@@ -39,6 +38,20 @@ pub struct Standing<'a> {
     /// The nodes that hold their locks: those that were entered and aren't finished. Their phases
     /// say it too, so contracts don't see it.
     held: HeldNodes<'a>,
+}
+
+impl<'a> Drop for Standing<'a> {
+    fn drop(self) {
+        let Standing {
+            plan: _,
+            phases: _,
+            owners: _,
+            busy: _,
+            stopped: _,
+            passed: _,
+            held: _,
+        } = self;
+    }
 }
 
 impl<'a> Model for Standing<'a> {

@@ -12,9 +12,14 @@ use std::sync::Arc;
 /// What was changed of a value, in layers, the newest first. In a name's place stands the text that
 /// it was given, or none where it was cleared; the newest layer that has a place counts. Layers
 /// that others share are never changed.
-#[derive(Drop)]
 pub(crate) struct Layers {
     layers: Vec<Arc<Places>>,
+}
+
+impl Drop for Layers {
+    fn drop(self) {
+        let Layers { layers: _ } = self;
+    }
 }
 
 impl Model for Layers {

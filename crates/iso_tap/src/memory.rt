@@ -6,10 +6,18 @@ use std::alloc::Global;
 use std::marker::Model;
 
 /// A sink that keeps what it takes in memory. Running out of memory is a failure.
-#[derive(Drop)]
 pub struct MemorySink {
     bytes: Vec<u8>,
     failures: u64,
+}
+
+impl Drop for MemorySink {
+    fn drop(self) {
+        let MemorySink {
+            bytes: _,
+            failures: _,
+        } = self;
+    }
 }
 
 impl Model for MemorySink {

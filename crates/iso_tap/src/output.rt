@@ -6,11 +6,20 @@ use std::io;
 use std::marker::Model;
 
 /// A sink over a writer, as the program's standard output. It doesn't tell what it took.
-#[derive(Drop)]
 pub struct OutputSink<W: io::Write + Drop> {
     writer: W,
     count: u64,
     failures: u64,
+}
+
+impl<W: io::Write + Drop> Drop for OutputSink<W> {
+    fn drop(self) {
+        let OutputSink {
+            writer: _,
+            count: _,
+            failures: _,
+        } = self;
+    }
 }
 
 impl<W: io::Write + Drop> Model for OutputSink<W> {

@@ -40,10 +40,18 @@ impl BodyTime {
 ///
 /// Contracts see them in the order of the nodes, two for each, as they were kept: none of a body
 /// that didn't run or didn't end, or at whose begin or end the clock failed.
-#[derive(Drop)]
 pub struct Times {
     bodies: Vec<Option<BodyTime>>,
     first: u64,
+}
+
+impl Drop for Times {
+    fn drop(self) {
+        let Times {
+            bodies: _,
+            first: _,
+        } = self;
+    }
 }
 
 impl Model for Times {

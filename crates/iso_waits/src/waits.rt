@@ -19,13 +19,24 @@ use std::marker::Model;
 
 /// What tells what the nodes of a run waited for. Contracts see the plan of the run and the times
 /// of its bodies.
-#[derive(Drop)]
 pub struct Waits<'a> {
     plan: &'a Plan,
     times: &'a Times,
     stays: Vec<Stay>,
     keys: KnownKeys,
     rivals: Rivals,
+}
+
+impl<'a> Drop for Waits<'a> {
+    fn drop(self) {
+        let Waits {
+            plan: _,
+            times: _,
+            stays: _,
+            keys: _,
+            rivals: _,
+        } = self;
+    }
 }
 
 impl<'a> Model for Waits<'a> {

@@ -72,9 +72,9 @@ nodes-preserved-then-is_empty-2 c =
     let kinds : row_at tree n ≡ row_of k = row-at now n k within ∙ ap row_of (sym c.index.ensures) in
     let marks : c.in_ok-marks.marks ≡ effective_at tree n = c.in_ok-marks.ensures ∙ ap (λ (rows : List Row). effective_at (map row_of rows) n) c.as_slice.ensures.value in
     let none : length c.in_ok-marks.marks ≡ 0 = eq_from (length c.in_ok-marks.marks) 0 (sym c.if-is_empty.ensures) in
-    let bare : length c.marks-then-is_empty.result.now ≡ 0 = eq_from (length c.marks-then-is_empty.result.now) 0 (sym c.if-is_empty-2.ensures) in
+    let bare : length c.marks.result.now ≡ 0 = eq_from (length c.marks.result.now) 0 (sym c.if-is_empty-2.ensures) in
     bare-effective old tree n c.nodes.invariant c.requires less (sym marks ∙ nil_from_length c.in_ok-marks.marks none)
-    (ap (λ (x : T.Row). kind_marks x.kind) kinds ∙ sym c.marks-then-is_empty.ensures ∙ nil_from_length c.marks-then-is_empty.result.now bare)
+    (ap (λ (x : T.Row). kind_marks x.kind) kinds ∙ sym c.marks.ensures ∙ nil_from_length c.marks.result.now bare)
 
 pub nodes-init : goal.nodes-init
 nodes-init c = none-effective (map row_of c.args.rows.now.items)

@@ -23,12 +23,12 @@ add_up-requires-clause-waits c =
     let same = ap₂ (λ (p : Planned) (b : List (Option BodyTime)). waits (tree_of p) p.settings b n) c.nodes.invariant.plan c.nodes.invariant.bodies in
     let found = All-same (IsFor (tree_of plan) n) c.deref.result.now (waits (tree_of plan) plan.settings c.args.times.now n) (c.deref.ensures.value ∙ c.in_ok-found.ensures.waits ∙ same)
     (waits-for (tree_of plan) plan.settings c.args.times.now n) in
-    let plan_told = ap (λ (r : Ran). r.plan) c.waits-in-nodes.ensures.same ∙ c.nodes.invariant.plan in
+    let plan_told = ap (λ (r : Ran). r.plan) c.waits.ensures.same ∙ c.nodes.invariant.plan in
     subst (λ (p : Planned). All (IsFor (tree_of p) n) c.deref.result.now) (sym plan_told) found
 
 pub add_up-requires-clause-sums : goal.add_up-requires-clause-sums
 add_up-requires-clause-sums c =
-    let plan_told = ap (λ (r : Ran). r.plan) c.waits-in-nodes.ensures.same ∙ c.nodes.invariant.plan in
+    let plan_told = ap (λ (r : Ran). r.plan) c.waits.ensures.same ∙ c.nodes.invariant.plan in
     subst (λ (p : Planned). AreSums (tree_of p) c.nodes.node [] c.nodes.sums.items) (sym plan_told) c.nodes.invariant.sums
 
 -- the waits of one node more
@@ -49,15 +49,15 @@ nodes-preserved c =
     let ws = c.deref.result.now in
     let same = ap₂ (λ (p : Planned) (b : List (Option BodyTime)). waits (tree_of p) p.settings b n) c.nodes.invariant.plan c.nodes.invariant.bodies in
     let found : ws ≡ waits tree plan.settings c.args.times.now n = c.deref.ensures.value ∙ c.in_ok-found.ensures.waits ∙ same in
-    let plan_told = ap (λ (r : Ran). r.plan) c.waits-in-nodes.ensures.same ∙ c.nodes.invariant.plan in
+    let plan_told = ap (λ (r : Ran). r.plan) c.waits.ensures.same ∙ c.nodes.invariant.plan in
     let added = subst (λ (p : Planned). AreSums (tree_of p) n ws c.add_up.new.sums.items) plan_told c.add_up.ensures in
     let are : AreSums tree n ws sums = subst (AreSums tree n ws) (sym c.deref-in-nodes.ensures.value) added in
     let told : sums_of n sums ls ≡ key_waits tree n ws =
     sums-are tree n ws sums ls are c.locks.ensures.known ∙ ap (filter_map (λ (l : Lock). wait_for tree n ws l.key)) c.locks.ensures.locks in
     let above : 0 < n = omega arith in
     record {
-      plan = ap (λ (r : Ran). r.plan) c.waits-in-nodes.ensures.same ∙ c.nodes.invariant.plan;
-      bodies = ap (λ (r : Ran). r.bodies) c.waits-in-nodes.ensures.same ∙ c.nodes.invariant.bodies;
+      plan = ap (λ (r : Ran). r.plan) c.waits.ensures.same ∙ c.nodes.invariant.plan;
+      bodies = ap (λ (r : Ran). r.bodies) c.waits.ensures.same ∙ c.nodes.invariant.bodies;
       sums = sums-next tree n ws c.add_up.new.sums.items added;
       found =
           c.in_ok-append.ensures
