@@ -59,6 +59,11 @@ def sum_of(crate):
     return path.read_text() if path.is_file() else None
 
 
+def without_library(crate):
+    """The crates that a crate stands on, at any depth, of which there is no library, as of a new one."""
+    return [name for name in below(crate, uses_of()) if sum_of(name) is None]
+
+
 class Gate:
     """What the last gate of this folder has read and built."""
 
